@@ -1,0 +1,41 @@
+-- A choice by a test of two numbers, taken apart into its two cases. Each law is one case split on the test's outcome.
+use mathlib.Core.Path.{_≡_, refl}
+use mathlib.Core.Logic.{_≢_}
+use mathlib.Core.Bool.{Bool, true, false, cond}
+use Prim.Native.Nat.{ℕ, _≤_, _<_}
+use native.Mathlib.Omega.{arith}
+use lib.Dec.{eqb, ltb}
+use borrow.Author.Tests.{ltb-true, ltb-false, eqb-true, eqb-false}
+use Rattle.lists.specs.Lists.{one}
+
+pub if-eq : {A : Type 0} (P : A → Type 0) (a b : ℕ) {x y : A} → (a ≡ b → P x) → (a ≢ b → P y) → P (cond (eqb a b) x y)
+if-eq P a b {x} {y} p q = go (eqb a b) refl
+  where
+    go : (t : Bool) → eqb a b ≡ t → P (cond t x y)
+    go true e = p (eqb-true a b e)
+    go false e = q (eqb-false a b e)
+
+pub if-lt : {A : Type 0} (P : A → Type 0) (a b : ℕ) {x y : A} → (a < b → P x) → (b ≤ a → P y) → P (cond (ltb a b) x y)
+if-lt P a b {x} {y} p q = go (ltb a b) refl
+  where
+    go : (t : Bool) → ltb a b ≡ t → P (cond t x y)
+    go true e = p (ltb-true a b e)
+    go false e = q (ltb-false a b e)
+
+pub if-same : {A : Type 0} (a b : ℕ) (x y : A) → a ≡ b → cond (eqb a b) x y ≡ x
+if-same a b x y e = if-eq (λ z. z ≡ x) a b (λ s. refl) (λ d. absurd (d e))
+
+pub if-other : {A : Type 0} (a b : ℕ) (x y : A) → a ≢ b → cond (eqb a b) x y ≡ y
+if-other a b x y e = if-eq (λ z. z ≡ y) a b (λ s. absurd (e s)) (λ d. refl)
+
+pub if-less : {A : Type 0} (a b : ℕ) (x y : A) → a < b → cond (ltb a b) x y ≡ x
+if-less a b x y e = if-lt (λ z. z ≡ x) a b (λ s. refl) (λ d. absurd (omega arith))
+
+pub if-not-less : {A : Type 0} (a b : ℕ) (x y : A) → b ≤ a → cond (ltb a b) x y ≡ y
+if-not-less a b x y e = if-lt (λ z. z ≡ y) a b (λ s. absurd (omega arith)) (λ d. refl)
+
+pub one-same : (a b : ℕ) → a ≡ b → one a b ≡ 1
+one-same a b e = if-same a b 1 0 e
+
+pub one-other : (a b : ℕ) → a ≢ b → one a b ≡ 0
+one-other a b e = if-other a b 1 0 e

@@ -1,0 +1,1 @@
+// Mathematics only: lists, and what is said of all of their members. See specs/ and proofs/.

@@ -1,0 +1,22 @@
+-- The levels of a frequency: the first, the ceiling, and how a level changes.
+use mathlib.Core.Bool.{cond}
+use Prim.Native.Nat.{ℕ, _+_, _-_, _/_, _^_, max}
+use lib.Dec.{ltb}
+
+abbrev pub FIRST : ℕ
+FIRST = 1
+
+abbrev pub CEILING : ℕ
+CEILING = 2 ^ 64 - 1
+
+-- a hit: one level up, unless the level is at or above the cap
+abbrev pub raised : ℕ → ℕ → ℕ
+raised cap f = cond (ltb f cap) (f + 1) f
+
+-- a cap of 0 is read as 1
+abbrev pub capOf : ℕ → ℕ
+capOf cap = max cap FIRST
+
+-- half, rounded down, but at least the first level
+abbrev pub halved : ℕ → ℕ
+halved f = max (f / 2) FIRST

@@ -1,0 +1,94 @@
+// The three kinds of number that must not be mixed, the levels of a frequency, and the answers of document 01's table.
+ghost use mathlib.Core.Path.{_≡_};
+ghost use Rattle.numbers.specs.Frequency.{raised, halved, capOf, CEILING};
+ghost use Rattle.numbers.specs.Answer.{numberOf};
+
+// The most slots that a table may have.
+pub const LIMIT: u64 = 4096;
+
+// The mark that stands where a link leads nowhere. No slot has this number.
+pub const NONE: u64 = 4096;
+
+// What a guest is known by.
+pub struct Key(pub u64);
+
+// The place of a guest in every table.
+pub struct Slot(pub u64);
+
+// How often a guest was hit, counted from 1.
+pub struct Frequency(pub u64);
+
+impl Frequency {
+    // The level of a guest that has just been bound.
+    pub const FIRST: Frequency = Frequency(1);
+    // The level above which no guest rises.
+    pub const CEILING: Frequency = Frequency(0xffff_ffff_ffff_ffff);
+
+    // A hit: one level up, unless the level is at or above the cap.
+    fn raised(self, cap: Frequency) -> Frequency
+        ensures { λ r. ⌜ r .0 ≡ raised (cap .0) (self .0) ⌝ }
+    {
+        if self.0 < cap.0 {
+            return Frequency(self.0 + 1);
+        }
+        self
+    }
+
+    // One level up, but never past the ceiling.
+    pub fn next(self) -> Frequency
+        ensures { λ r. ⌜ r .0 ≡ raised CEILING (self .0) ⌝ }
+    {
+        self.raised(Frequency::CEILING)
+    }
+
+    // Half of the level, rounded down, but never below the first.
+    pub fn halved(self) -> Frequency
+        ensures { λ r. ⌜ r .0 ≡ halved (self .0) ⌝ }
+    {
+        let half = self.0 / 2;
+        if half < 1 {
+            return Frequency::FIRST;
+        }
+        Frequency(half)
+    }
+
+    // One level up while below the cap; a level at or above the cap stays. A cap of 0 is read as 1.
+    pub fn capped(self, cap: Frequency) -> Frequency
+        ensures { λ r. ⌜ r .0 ≡ raised (capOf (cap .0)) (self .0) ⌝ }
+    {
+        if cap.0 < 1 {
+            return self.raised(Frequency::FIRST);
+        }
+        self.raised(cap)
+    }
+}
+
+// What a caller may be told.
+pub enum Answer {
+    Done,
+    Absent,
+    Present,
+    Full,
+    Empty,
+    Corrupt,
+    Short,
+    Capacity,
+}
+
+impl Answer {
+    // Document 01's number.
+    pub fn number(self) -> u64
+        ensures { λ r. ⌜ r ≡ numberOf self ⌝ }
+    {
+        match self {
+            Answer::Done => 0,
+            Answer::Absent => 1,
+            Answer::Present => 2,
+            Answer::Full => 3,
+            Answer::Empty => 4,
+            Answer::Corrupt => 5,
+            Answer::Short => 6,
+            Answer::Capacity => 7,
+        }
+    }
+}
