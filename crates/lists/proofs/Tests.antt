@@ -3,6 +3,7 @@ use mathlib.Core.Path.{_≡_, refl}
 use mathlib.Core.Logic.{_≢_}
 use mathlib.Core.Bool.{Bool, true, false, cond}
 use Prim.Native.Nat.{ℕ, _≤_, _<_}
+use native.Mathlib.Decide.{ℕ-discrete}
 use native.Mathlib.Omega.{arith}
 use lib.Dec.{eqb, ltb}
 use borrow.Author.Tests.{ltb-true, ltb-false, eqb-true, eqb-false}
@@ -21,6 +22,14 @@ if-lt P a b {x} {y} p q = go (ltb a b) refl
     go : (t : Bool) → ltb a b ≡ t → P (cond t x y)
     go true e = p (ltb-true a b e)
     go false e = q (ltb-false a b e)
+
+-- two numbers are equal or not
+pub by-eq : {P : Type 0} (a b : ℕ) → (a ≡ b → P) → (a ≢ b → P) → P
+by-eq {P} a b p q = go (ℕ-discrete a b)
+  where
+    go : Dec (a ≡ b) → P
+    go (yes e) = p e
+    go (no d) = q d
 
 pub if-same : {A : Type 0} (a b : ℕ) (x y : A) → a ≡ b → cond (eqb a b) x y ≡ x
 if-same a b x y e = if-eq (λ z. z ≡ x) a b (λ s. refl) (λ d. absurd (d e))

@@ -1,0 +1,154 @@
+-- Counting with lists of numbers below n. What carries it: a list of such numbers is as long as the sum, over the numbers below n, of how often each stands in it;
+-- and where one function is at most another at each number, their totals are equal only if they are equal at each number.
+use mathlib.Core.Path.{_≡_, refl, sym, ap, _∙_, subst}
+use mathlib.Core.Bool.{Bool, true, false, not}
+use mathlib.Core.List.{List, [], _∷_}
+use Prim.Native.Nat.{ℕ, zero, suc, _+_, _≤_, _<_}
+use native.Mathlib.Numerals.{add-one}
+use native.Mathlib.Omega.{arith}
+use lib.ListN.{length}
+use Rattle.lists.specs.Lists.{All, In, Without, Distinct, one, times}
+use Rattle.lists.proofs.Tests.{one-same, one-other, if-eq, by-eq}
+use Rattle.lists.proofs.Members.{all-map, without-times, in-times, times-in, times-without}
+use Rattle.links.specs.Marks.{total, mark, count}
+
+-- ---- totals
+
+pub total-le : (f g : ℕ → ℕ) (n : ℕ) → ((k : ℕ) → k < n → f k ≤ g k) → total f n ≤ total g n
+total-le f g zero h = omega arith
+total-le f g (suc n) h = omega (arith, total-le f g n (λ k l. h k (omega arith)), h n (omega arith))
+
+pub total-same : (f g : ℕ → ℕ) (n : ℕ) → ((k : ℕ) → k < n → f k ≡ g k) → total f n ≡ total g n
+total-same f g n h = omega (arith, total-le f g n (λ k l. omega (arith, h k l)), total-le g f n (λ k l. omega (arith, h k l)))
+
+-- nowhere more, and in total not less: everywhere the same
+pub total-tight : (f g : ℕ → ℕ) (n : ℕ) → ((k : ℕ) → k < n → f k ≤ g k) → total g n ≤ total f n → (k : ℕ) → k < n → f k ≡ g k
+total-tight f g zero h e k l = absurd (omega arith)
+total-tight f g (suc n) h e k l =
+    let below = total-le f g n (λ j m. h j (omega arith)) in
+    let here = h n (omega arith) in
+    by-eq k n
+    (λ q. subst (λ (j : ℕ). f j ≡ g j) (sym q) (omega arith))
+    (λ d. total-tight f g n (λ j m. h j (omega arith)) (omega arith) k (omega arith))
+
+pub total-add : (f g : ℕ → ℕ) (n : ℕ) → total (λ k. f k + g k) n ≡ total f n + total g n
+total-add f g zero = omega arith
+total-add f g (suc n) = omega (arith, total-add f g n)
+
+total-ones : (n : ℕ) → total (λ k. 1) n ≡ n
+total-ones zero = refl
+total-ones (suc n) = omega (arith, total-ones n)
+
+total-zeros : (n : ℕ) → total (λ k. 0) n ≡ 0
+total-zeros zero = refl
+total-zeros (suc n) = omega (arith, total-zeros n)
+
+-- ---- lists of numbers below n
+
+one-above : (x n : ℕ) → n ≤ x → total (λ k. one x k) n ≡ 0
+one-above x n h = total-same (λ k. one x k) (λ k. 0) n (λ k l. one-other x k (λ e. omega arith)) ∙ total-zeros n
+
+one-below : (x n : ℕ) → x < n → total (λ k. one x k) n ≡ 1
+one-below x zero h = absurd (omega arith)
+one-below x (suc n) h =
+    by-eq x n
+    (λ e. omega (arith, one-same x n e, one-above x n (omega arith)))
+    (λ d. omega (arith, one-other x n d, one-below x n (omega arith)))
+
+-- a list is as long as how often each number stands in it, in total
+pub length-total : (n : ℕ) (fs : List ℕ) → All (λ x. x < n) fs → length fs ≡ total (λ k. times k fs) n
+length-total n [] b = sym (total-zeros n)
+length-total n (x ∷ fs) b =
+    omega (arith, length-total n fs (b .1), total-add (λ k. one x k) (λ k. times k fs) n, one-below x n (b .0))
+
+pub distinct-times : (k : ℕ) (fs : List ℕ) → Distinct fs → times k fs ≤ 1
+distinct-times k [] d = omega arith
+distinct-times k (x ∷ fs) d =
+    if-eq (λ m. m + times k fs ≤ 1) x k
+    (λ e. omega (arith, without-times k fs (subst (λ (j : ℕ). Without j fs) e (d .0))))
+    (λ q. omega (arith, distinct-times k fs (d .1)))
+
+-- ---- marks
+
+-- what counts up in a loop
+pub count-more : (p : ℕ → Bool) (i : ℕ) → count p (i + 1) ≡ count p i + mark (p i)
+count-more p i = rw add-one
+
+pub count-le : (p : ℕ → Bool) (n : ℕ) → count p n ≤ n
+count-le p n = omega (arith, total-le (λ k. mark (p k)) (λ k. 1) n (λ k l. mark-le (p k)), total-ones n)
+  where
+    mark-le : (b : Bool) → mark b ≤ 1
+    mark-le true = omega arith
+    mark-le false = omega arith
+
+-- each number has the mark or not
+pub count-not : (p : ℕ → Bool) (n : ℕ) → count p n + count (λ k. not (p k)) n ≡ n
+count-not p n =
+    omega (arith, total-add (λ k. mark (p k)) (λ k. mark (not (p k))) n, total-same (λ k. mark (p k) + mark (not (p k))) (λ k. 1) n (λ k l. one-of (p k)), total-ones n)
+  where
+    one-of : (b : Bool) → mark b + mark (not b) ≡ 1
+    one-of true = refl
+    one-of false = refl
+
+neither : (b : Bool) → b ≡ true → b ≡ false → ⊥
+neither b p q = let z : mark true ≡ mark false = ap mark (sym p ∙ q) in omega arith
+
+-- Distinct numbers below n that all have the mark.
+module _ (p : ℕ → Bool) (n : ℕ) (fs : List ℕ) (distinct : Distinct fs) (below : All (λ x. x < n) fs) (marked : All (λ x. p x ≡ true) fs) where
+  unmarked-times : (k : ℕ) → p k ≡ false → times k fs ≡ 0
+  unmarked-times k e =
+      without-times k fs (all-map (λ x. p x ≡ true) (λ x. x ≡ k → ⊥) (λ x m q. neither (p x) m (ap p q ∙ e)) fs marked)
+
+  at-most : (k : ℕ) → times k fs ≤ mark (p k)
+  at-most k = go (p k) refl
+    where
+      go : (b : Bool) → p k ≡ b → times k fs ≤ mark b
+      go true e = distinct-times k fs distinct
+      go false e = omega (arith, unmarked-times k e)
+
+  pub marked-le : length fs ≤ count p n
+  marked-le = omega (arith, length-total n fs below, total-le (λ k. times k fs) (λ k. mark (p k)) n (λ k l. at-most k))
+
+  -- as many as have the mark: no other number has it
+  pub marked-all : length fs ≡ count p n → (s : ℕ) → s < n → p s ≡ true → In s fs
+  marked-all e s l m =
+      let tight = total-tight (λ k. times k fs) (λ k. mark (p k)) n (λ k i. at-most k) (omega (arith, length-total n fs below)) s l in
+      times-in s fs (omega (arith, ap mark m))
+
+  -- and if no other number has the mark, then they are as many
+  pub marked-cover : ((s : ℕ) → s < n → p s ≡ true → In s fs) → length fs ≡ count p n
+  marked-cover h = length-total n fs below ∙ total-same (λ k. times k fs) (λ k. mark (p k)) n (λ k l. go k l (p k) refl)
+    where
+      go : (k : ℕ) → k < n → (b : Bool) → p k ≡ b → times k fs ≡ mark b
+      go k l true e = omega (arith, in-times k fs (h k l e), distinct-times k fs distinct)
+      go k l false e = unmarked-times k e
+
+-- Distinct numbers below n that all have no mark: the same, for the mark "not p".
+module _ (p : ℕ → Bool) (n : ℕ) (fs : List ℕ) (distinct : Distinct fs) (below : All (λ x. x < n) fs) (unmarked : All (λ x. p x ≡ false) fs) where
+  others : All (λ x. not (p x) ≡ true) fs
+  others = all-map (λ x. p x ≡ false) (λ x. not (p x) ≡ true) (λ x e. ap not e) fs unmarked
+
+  -- together with the marked ones they are at most n
+  pub pigeon : count p n + length fs ≤ n
+  pigeon = omega (arith, marked-le (λ k. not (p k)) n fs distinct below others, count-not p n)
+
+  -- if they are n, then each other number has the mark
+  pub pigeon-others : count p n + length fs ≡ n → (s : ℕ) → s < n → Without s fs → p s ≡ true
+  pigeon-others e s l w = go (p s) refl
+    where
+      go : (b : Bool) → p s ≡ b → b ≡ true
+      go true q = refl
+      go false q =
+          let i = marked-all (λ k. not (p k)) n fs distinct below others (omega (arith, count-not p n)) s l (ap not q) in
+          absurd (omega (arith, in-times s fs i, without-times s fs w))
+
+  -- and if each other number has the mark, then they are n
+  pub pigeon-cover : ((s : ℕ) → s < n → Without s fs → p s ≡ true) → count p n + length fs ≡ n
+  pigeon-cover h = omega (arith, marked-cover (λ k. not (p k)) n fs distinct below others (λ s l q. go s l q), count-not p n)
+    where
+      go : (s : ℕ) → s < n → not (p s) ≡ true → In s fs
+      go s l q = by-eq (times s fs) 0 (λ e. absurd (neither (p s) (h s l (times-without s fs e)) (off (p s) q))) (λ d. times-in s fs (omega arith))
+        where
+          off : (b : Bool) → not b ≡ true → b ≡ false
+          off true e = sym e
+          off false e = refl

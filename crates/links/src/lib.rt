@@ -1,0 +1,1 @@
+// Chains of links: mathematics only. See specs/ and proofs/.
