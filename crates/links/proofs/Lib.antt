@@ -1,2 +1,6 @@
 pub mod Pigeonhole
 pub mod Chains
+pub mod Functions
+pub mod Rings
+pub mod Walks
+pub mod Lists

@@ -1,2 +1,4 @@
 pub mod Chain
 pub mod Marks
+pub mod Ring
+pub mod Lent
