@@ -8,8 +8,8 @@ use native.Mathlib.Numerals.{add-one}
 use native.Mathlib.Omega.{arith}
 use lib.ListN.{length}
 use Rattle.lists.specs.Lists.{All, In, Without, Distinct, one, times}
-use Rattle.lists.proofs.Tests.{one-same, one-other, if-eq, by-eq}
-use Rattle.lists.proofs.Members.{all-map, without-times, in-times, times-in, times-without}
+use Rattle.lists.proofs.Tests.{one-same, one-other, if-eq, by-eq, neither}
+use Rattle.lists.proofs.Members.{all-map, without-times, in-times, times-in, times-without, in-without}
 use Rattle.links.specs.Marks.{total, mark, count}
 
 -- ---- totals
@@ -35,7 +35,7 @@ pub total-add : (f g : ℕ → ℕ) (n : ℕ) → total (λ k. f k + g k) n ≡ 
 total-add f g zero = omega arith
 total-add f g (suc n) = omega (arith, total-add f g n)
 
-total-ones : (n : ℕ) → total (λ k. 1) n ≡ n
+pub total-ones : (n : ℕ) → total (λ k. 1) n ≡ n
 total-ones zero = refl
 total-ones (suc n) = omega (arith, total-ones n)
 
@@ -90,9 +90,6 @@ count-not p n =
     one-of true = refl
     one-of false = refl
 
-neither : (b : Bool) → b ≡ true → b ≡ false → ⊥
-neither b p q = let z : mark true ≡ mark false = ap mark (sym p ∙ q) in omega arith
-
 -- Distinct numbers below n that all have the mark.
 module _ (p : ℕ → Bool) (n : ℕ) (fs : List ℕ) (distinct : Distinct fs) (below : All (λ x. x < n) fs) (marked : All (λ x. p x ≡ true) fs) where
   unmarked-times : (k : ℕ) → p k ≡ false → times k fs ≡ 0
@@ -140,7 +137,7 @@ module _ (p : ℕ → Bool) (n : ℕ) (fs : List ℕ) (distinct : Distinct fs) (
       go true q = refl
       go false q =
           let i = marked-all (λ k. not (p k)) n fs distinct below others (omega (arith, count-not p n)) s l (ap not q) in
-          absurd (omega (arith, in-times s fs i, without-times s fs w))
+          absurd (in-without s fs i w)
 
   -- and if each other number has the mark, then they are n
   pub pigeon-cover : ((s : ℕ) → s < n → Without s fs → p s ≡ true) → count p n + length fs ≡ n

@@ -1,2 +1,3 @@
 pub mod Tests
 pub mod Members
+pub mod Stores

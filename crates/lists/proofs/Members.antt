@@ -1,4 +1,4 @@
--- Laws of `All`, `In`, `final` and `sum` over lists that are taken apart and put together. Each is a plain induction on the list.
+-- Laws of `All`, `In`, `final`, `from` and `sum` over lists that are taken apart and put together. Each is a plain induction on the list.
 use mathlib.Core.Path.{_≡_, refl, sym, ap, _∙_, subst}
 use mathlib.Core.Logic.{_⊎_, inl, inr, _≢_}
 use mathlib.Core.List.{List, [], _∷_, _++_}
@@ -6,7 +6,7 @@ use Prim.Native.Nat.{ℕ, zero, suc, _+_, _≤_, _<_}
 use native.Mathlib.Omega.{arith}
 use lib.ListN.{length}
 use Rattle.lists.specs.Lists.{All, In, Without, Distinct, final, from, sum, one, times}
-use Rattle.lists.proofs.Tests.{if-eq, one-same, one-other}
+use Rattle.lists.proofs.Tests.{if-eq, by-eq, one-same, one-other}
 
 module _ {A : Type 0} where
   pub all-any : (P : A → Type 0) → ((x : A) → P x) → (xs : List A) → All P xs
@@ -82,6 +82,18 @@ pub length-from : (s n : ℕ) → length (from s n) ≡ n
 length-from s zero = refl
 length-from s (suc n) = ap suc (length-from (s + 1) n)
 
+pub from-in : (s n k : ℕ) → s ≤ k → k < s + n → In k (from s n)
+from-in s zero k l h = absurd (omega arith)
+from-in s (suc n) k l h = by-eq s k (λ e. inl e) (λ d. inr (from-in (s + 1) n k (omega arith) (omega arith)))
+
+pub all-from : (P : ℕ → Type 0) (s n : ℕ) → ((k : ℕ) → s ≤ k → k < s + n → P k) → All P (from s n)
+all-from P s zero f = tt
+all-from P s (suc n) f = (f s (omega arith) (omega arith), all-from P (s + 1) n (λ k l h. f k (omega arith) (omega arith)))
+
+pub final-from : (a s n : ℕ) → final a (from s (suc n)) ≡ s + n
+final-from a s zero = omega arith
+final-from a s (suc n) = let r = final-from s (s + 1) n in omega arith
+
 -- being a member, by counting
 pub in-times : (s : ℕ) (xs : List ℕ) → In s xs → 1 ≤ times s xs
 in-times s (x ∷ xs) (inl e) = omega (arith, one-same x s e)
@@ -98,3 +110,6 @@ without-times s (x ∷ xs) h = let r = without-times s xs (h .1) in omega (arith
 pub times-without : (s : ℕ) (xs : List ℕ) → times s xs ≡ 0 → Without s xs
 times-without s [] h = tt
 times-without s (x ∷ xs) h = ((λ e. absurd (omega (arith, one-same x s e))), times-without s xs (omega arith))
+
+pub in-without : (s : ℕ) (xs : List ℕ) → In s xs → Without s xs → ⊥
+in-without s xs i w = omega (arith, in-times s xs i, without-times s xs w)

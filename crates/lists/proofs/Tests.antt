@@ -1,6 +1,6 @@
--- A choice by a test of two numbers, taken apart into its two cases. Each law is one case split on the test's outcome.
-use mathlib.Core.Path.{_≡_, refl}
-use mathlib.Core.Logic.{_≢_}
+-- Tests of two numbers and choices by them, taken apart into their two cases; answers yes and no. Each law is one case split on the outcome.
+use mathlib.Core.Path.{_≡_, refl, sym, ap, _∙_}
+use mathlib.Core.Logic.{_≢_, _↔_}
 use mathlib.Core.Bool.{Bool, true, false, cond}
 use Prim.Native.Nat.{ℕ, _≤_, _<_}
 use native.Mathlib.Decide.{ℕ-discrete}
@@ -23,13 +23,27 @@ if-lt P a b {x} {y} p q = go (ltb a b) refl
     go true e = p (ltb-true a b e)
     go false e = q (ltb-false a b e)
 
--- two numbers are equal or not
+-- two numbers are equal or not, in order or not
 pub by-eq : {P : Type 0} (a b : ℕ) → (a ≡ b → P) → (a ≢ b → P) → P
 by-eq {P} a b p q = go (ℕ-discrete a b)
   where
     go : Dec (a ≡ b) → P
     go (yes e) = p e
     go (no d) = q d
+
+pub by-lt : {P : Type 0} (a b : ℕ) → (a < b → P) → (b ≤ a → P) → P
+by-lt {P} a b p q = go (ltb a b) refl
+  where
+    go : (t : Bool) → ltb a b ≡ t → P
+    go true e = p (ltb-true a b e)
+    go false e = q (ltb-false a b e)
+
+pub neither : (b : Bool) → b ≡ true → b ≡ false → ⊥
+neither b p q = let z : _≡_ {A = ℕ} 1 0 = ap (λ (c : Bool). cond c 1 0) (sym p ∙ q) in omega arith
+
+-- an answer "no" where P does not hold
+pub says-no : (P : Type 0) → (P → ⊥) → (false ≡ true) ↔ P
+says-no P n = (λ e. absurd (neither false e refl), λ p. absurd (n p))
 
 pub if-same : {A : Type 0} (a b : ℕ) (x y : A) → a ≡ b → cond (eqb a b) x y ≡ x
 if-same a b x y e = if-eq (λ z. z ≡ x) a b (λ s. refl) (λ d. absurd (d e))

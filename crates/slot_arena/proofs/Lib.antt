@@ -1,0 +1,4 @@
+pub mod Free
+pub mod Steps
+pub mod Check
+pub mod Uses

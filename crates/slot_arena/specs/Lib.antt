@@ -1,0 +1,3 @@
+pub mod Arena
+pub mod Fill
+pub mod Check
