@@ -55,6 +55,18 @@ module _ {A : Type 0} where
   in-mid [] x vs = inl refl
   in-mid (u ∷ us) x vs = inr (in-mid us x vs)
 
+  -- where a member stands
+  pub record Split (x : A) (xs : List A) : Type 0 where
+    pub before : List A
+    pub after : List A
+    pub is : xs ≡ before ++ x ∷ after
+
+  pub in-split : (x : A) (xs : List A) → In x xs → Split x xs
+  in-split x (y ∷ ys) (inl e) = record { before = []; after = ys; is = λ i. e i ∷ ys }
+  in-split x (y ∷ ys) (inr i) =
+      let r = in-split x ys i in
+      record { before = y ∷ r .before; after = r .after; is = ap {B = List A} (λ zs. y ∷ zs) (r .is) }
+
   pub in-length : (x : A) (xs : List A) → In x xs → 1 ≤ length xs
   in-length x (y ∷ ys) i = omega arith
 

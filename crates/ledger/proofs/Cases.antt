@@ -1,0 +1,13 @@
+-- All twelve cases of document 01 pass: running the table gives the table. Carried by computation alone.
+use mathlib.Core.Path.{_≡_, refl}
+use mathlib.Core.List.{map}
+use Rattle.ledger.specs.Buckets.{insert, touch, touchUpTo, touchCapped, remove, popMin, currentEpoch, setEpoch, advanceEpoch}
+use Rattle.ledger.specs.Rebuild.{rebuild, decayHalve, rebaseMinFreq}
+use Rattle.ledger.specs.Calls.{asks, calls}
+use Rattle.ledger.specs.Cache.{cacheInsert, cacheGet, cachePeekLfu, cacheLen}
+use Rattle.ledger.specs.History.{does}
+use Rattle.ledger.specs.Cases.{run, cases}
+
+pub twelve-cases : map run cases ≡ cases
+unfolding asks calls insert touch touchUpTo touchCapped remove popMin currentEpoch setEpoch advanceEpoch rebuild decayHalve rebaseMinFreq does cacheInsert cacheGet cachePeekLfu cacheLen
+twelve-cases = refl

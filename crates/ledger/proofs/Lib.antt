@@ -1,0 +1,9 @@
+pub mod Items
+pub mod Rising
+pub mod Slots
+pub mod Changes
+pub mod Rebuilt
+pub mod Kept
+pub mod Walked
+pub mod Refusals
+pub mod Cases

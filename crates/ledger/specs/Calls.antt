@@ -1,0 +1,66 @@
+-- Each call of the buckets as data, so that a law can speak of all of them at once.
+use mathlib.Core.List.{List, []}
+use Prim.Native.Nat.{ℕ}
+use Rattle.ledger.specs.Ledger.{Ledger}
+use Rattle.ledger.specs.Buckets.{Outcome, insert, touch, touchCapped, remove, popMin, peekMin, minFreq, frequency, entryEpoch, setEntryEpoch, currentEpoch, setEpoch, advanceEpoch, len, isEmpty, contains, clear, insertBatch, touchBatch, removeBatch}
+use Rattle.ledger.specs.Rebuild.{decayHalve, rebaseMinFreq}
+use Rattle.ledger.specs.Walk.{stepReply, start, step}
+
+-- the calls that only answer
+pub data Query : Type 0 where
+  PeekMin : Query
+  MinFreq : Query
+  Frequency : (key : ℕ) → Query
+  EntryEpoch : (key : ℕ) → Query
+  CurrentEpoch : Query
+  Len : Query
+  IsEmpty : Query
+  Contains : (key : ℕ) → Query
+  WalkStart : (frequency : ℕ) → Query
+  WalkStep : (slot : ℕ) → Query
+
+pub data BucketCall : Type 0 where
+  Ask : Query → BucketCall
+  Insert : (key : ℕ) → BucketCall
+  Touch : (key : ℕ) → BucketCall
+  TouchCapped : (cap key : ℕ) → BucketCall
+  Remove : (key : ℕ) → BucketCall
+  PopMin : BucketCall
+  SetEntryEpoch : (key epoch : ℕ) → BucketCall
+  SetEpoch : (epoch : ℕ) → BucketCall
+  AdvanceEpoch : BucketCall
+  DecayHalve : BucketCall
+  RebaseMinFreq : BucketCall
+  Clear : BucketCall
+  InsertBatch : List ℕ → BucketCall
+  TouchBatch : List ℕ → BucketCall
+  RemoveBatch : List ℕ → BucketCall
+
+unfoldable pub asks : Query → Ledger → Outcome
+asks PeekMin l = peekMin l
+asks MinFreq l = minFreq l
+asks (Frequency k) l = frequency k l
+asks (EntryEpoch k) l = entryEpoch k l
+asks CurrentEpoch l = currentEpoch l
+asks Len l = len l
+asks IsEmpty l = isEmpty l
+asks (Contains k) l = contains k l
+asks (WalkStart f) l = (stepReply (start f l), l)
+asks (WalkStep s) l = (stepReply (step s l), l)
+
+unfoldable pub calls : BucketCall → Ledger → Outcome
+calls (Ask q) l = asks q l
+calls (Insert k) l = insert k l
+calls (Touch k) l = touch k l
+calls (TouchCapped cap k) l = touchCapped cap k l
+calls (Remove k) l = remove k l
+calls PopMin l = popMin l
+calls (SetEntryEpoch k n) l = setEntryEpoch k n l
+calls (SetEpoch n) l = setEpoch n l
+calls AdvanceEpoch l = advanceEpoch l
+calls DecayHalve l = decayHalve l
+calls RebaseMinFreq l = rebaseMinFreq l
+calls Clear l = clear l
+calls (InsertBatch ks) l = insertBatch ks l
+calls (TouchBatch ks) l = touchBatch ks l
+calls (RemoveBatch ks) l = removeBatch ks l

@@ -1,0 +1,10 @@
+pub mod Ledger
+pub mod Buckets
+pub mod Rebuild
+pub mod Walk
+pub mod Calls
+pub mod Cache
+pub mod History
+pub mod Refusals
+pub mod Demand3
+pub mod Cases
