@@ -30,9 +30,13 @@ done-refused ns a e = let z : _≡_ {A = ℕ} 0 1 = cc in absurd (omega arith)
 same-refusal : (a b : Answer) → refused a ≡ refused b → a ≡ b
 same-refusal a b e = cc
 
+-- a call that is done where an item is found
+abbrev outcome : Option Item → Answer → Ledger → (Item → List ℕ) → (Item → Ledger) → Outcome
+outcome o why l ns m = ifFound {A = Outcome} o (refused why, l) (λ x. (done (ns x), m x))
+
 -- a refusal from a choice by what is found says that nothing was, and gives the one reason
 pub no-item : (o : Option Item) (why a : Answer) (l : Ledger) (ns : Item → List ℕ) (m : Item → Ledger) →
-    ifFound o (refused why, l) (λ x. (done (ns x), m x)) .0 ≡ refused a → (o ≡ none) × (why ≡ a)
+    outcome o why l ns m .0 ≡ refused a → (o ≡ none) × (why ≡ a)
 no-item none why a l ns m e = (refl, same-refusal why a e)
 no-item (some x) why a l ns m e = done-refused (ns x) a e
 
@@ -104,12 +108,12 @@ module _ (l : Ledger) (w : WellFormed l) where
 
   -- a refusal of a call that needs a key says that the key is unbound
   needs-key : (k : ℕ) (c : BucketCall) (a : Answer) (ns : Item → List ℕ) (m : Item → Ledger) → (Unbound k l → Refused l c Absent) →
-      ifFound (lookup k l) (refused Absent, l) (λ x. (done (ns x), m x)) .0 ≡ refused a → Refused l c a
+      outcome (lookup k l) Absent l ns m .0 ≡ refused a → Refused l c a
   needs-key k c a ns m r e =
       let p = no-item (lookup k l) Absent a l ns m e in subst (Refused l c) (p .1) (r (unbound-of k (p .0)))
 
   needs-any : (c : BucketCall) (a : Answer) (ns : Item → List ℕ) (m : Item → Ledger) → (size l ≡ 0 → Refused l c Empty) →
-      ifFound (lowest (l .levels)) (refused Empty, l) (λ x. (done (ns x), m x)) .0 ≡ refused a → Refused l c a
+      outcome (lowest (l .levels)) Empty l ns m .0 ≡ refused a → Refused l c a
   needs-any c a ns m r e =
       let p = no-item (lowest (l .levels)) Empty a l ns m e in subst (Refused l c) (p .1) (r (empty-of (p .0)))
 
@@ -172,7 +176,7 @@ insertAs-leaves k l none [] a e = refl
 insertAs-leaves k l none (s ∷ rest) a e = done-refused [] a e
 
 found-leaves : (o : Option Item) (y a : Answer) (l : Ledger) (ns : Item → List ℕ) (m : Item → Ledger) →
-    ifFound o (refused y, l) (λ x. (done (ns x), m x)) .0 ≡ refused a → ifFound o (refused y, l) (λ x. (done (ns x), m x)) .1 ≡ l
+    outcome o y l ns m .0 ≡ refused a → outcome o y l ns m .1 ≡ l
 found-leaves none y a l ns m e = refl
 found-leaves (some x) y a l ns m e = done-refused (ns x) a e
 
