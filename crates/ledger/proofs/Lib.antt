@@ -6,4 +6,8 @@ pub mod Rebuilt
 pub mod Kept
 pub mod Walked
 pub mod Refusals
+pub mod CacheKept
+pub mod Layers
+pub mod Batches
+pub mod CacheRefusals
 pub mod Cases

@@ -27,7 +27,7 @@ use Rattle.ledger.proofs.Walked.{step-absent}
 pub done-refused : {A : Type 0} (ns : List ℕ) (a : Answer) → done ns ≡ refused a → A
 done-refused ns a e = let z : _≡_ {A = ℕ} 0 1 = cc in absurd (omega arith)
 
-same-refusal : (a b : Answer) → refused a ≡ refused b → a ≡ b
+pub same-refusal : (a b : Answer) → refused a ≡ refused b → a ≡ b
 same-refusal a b e = cc
 
 -- a call that is done where an item is found
@@ -49,20 +49,20 @@ found-some none h = absurd (h refl)
 found-some (some x) h = (x, refl)
 
 module _ (l : Ledger) (w : WellFormed l) where
-  unbound-of : (k : ℕ) → lookup k l ≡ none → Unbound k l
+  pub unbound-of : (k : ℕ) → lookup k l ≡ none → Unbound k l
   unbound-of k e = found-none k (items (l .levels)) e
 
-  of-unbound : (k : ℕ) → Unbound k l → lookup k l ≡ none
+  pub of-unbound : (k : ℕ) → Unbound k l → lookup k l ≡ none
   of-unbound k h = none-found k (items (l .levels)) h
 
   -- keys are found exactly when bound
   pub found-exactly : (k : ℕ) → (lookup k l ≡ none) ↔ Unbound k l
   found-exactly k = (unbound-of k, of-unbound k)
 
-  empty-of : lowest (l .levels) ≡ none → size l ≡ 0
+  pub empty-of : lowest (l .levels) ≡ none → size l ≡ 0
   empty-of e = lowest-none 0 (l .levels) (w .rising) e
 
-  of-empty : size l ≡ 0 → lowest (l .levels) ≡ none
+  pub of-empty : size l ≡ 0 → lowest (l .levels) ≡ none
   of-empty h = go (lowest (l .levels)) refl
     where
       go : (o : Option Item) → lowest (l .levels) ≡ o → o ≡ none

@@ -1,8 +1,8 @@
 -- Each call of the buckets as data, so that a law can speak of all of them at once.
-use mathlib.Core.List.{List, []}
+use mathlib.Core.List.{List, [], _∷_}
 use Prim.Native.Nat.{ℕ}
 use Rattle.ledger.specs.Ledger.{Ledger}
-use Rattle.ledger.specs.Buckets.{Outcome, insert, touch, touchCapped, remove, popMin, peekMin, minFreq, frequency, entryEpoch, setEntryEpoch, currentEpoch, setEpoch, advanceEpoch, len, isEmpty, contains, clear, insertBatch, touchBatch, removeBatch}
+use Rattle.ledger.specs.Buckets.{Outcome, Reply, insert, touch, touchCapped, remove, popMin, peekMin, minFreq, frequency, entryEpoch, setEntryEpoch, currentEpoch, setEpoch, advanceEpoch, len, isEmpty, contains, clear, insertBatch, touchBatch, removeBatch}
 use Rattle.ledger.specs.Rebuild.{decayHalve, rebaseMinFreq}
 use Rattle.ledger.specs.Walk.{stepReply, start, step}
 
@@ -64,3 +64,12 @@ calls Clear l = clear l
 calls (InsertBatch ks) l = insertBatch ks l
 calls (TouchBatch ks) l = touchBatch ks l
 calls (RemoveBatch ks) l = removeBatch ks l
+
+-- a sequence of calls: what they answer, and the ledger after it
+abbrev pub replies : Ledger → List BucketCall → List Reply
+replies l [] = []
+replies l (c ∷ cs) = let r = calls c l in r .0 ∷ replies (r .1) cs
+
+abbrev pub afterCalls : Ledger → List BucketCall → Ledger
+afterCalls l [] = l
+afterCalls l (c ∷ cs) = afterCalls ((calls c l) .1) cs

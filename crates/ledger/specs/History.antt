@@ -78,6 +78,15 @@ says (evicted nothing) = []
 says cleared = empties ∷ []
 says (measured n) = []
 
+-- how many keys are newly bound
+abbrev pub bindings : List Change → ℕ
+bindings [] = 0
+bindings (binds x ∷ cs) = 1 + bindings cs
+bindings (hits x ∷ cs) = bindings cs
+bindings (evicts x ∷ cs) = bindings cs
+bindings (leaves x ∷ cs) = bindings cs
+bindings (empties ∷ cs) = bindings cs
+
 -- how a key stands: unbound, or bound, with its hits since the binding and the time of its last hit or binding
 pub data Standing : Type 0 where
   unbound : Standing
