@@ -10,4 +10,9 @@ pub mod CacheKept
 pub mod Layers
 pub mod Batches
 pub mod CacheRefusals
+pub mod Told
+pub mod Runs
+pub mod Parts
+pub mod FirstSentence
+pub mod Counted
 pub mod Cases
