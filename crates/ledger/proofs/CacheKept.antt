@@ -49,9 +49,9 @@ module _ (c : Cache) (w : CacheFormed c) where
     zeros = λ t.
         if-eq (λ z. z + times t (c .table .free) ≡ 1 → getD (set (c .values) (x .slot) 0) t 0 ≡ 0) (x .slot) t
         (λ q h.
-            let b = bound-slot (c .table) (w .table) x i .0 in
-            let f = w .fits in
-            rw (← q) (getD-set-same (c .values) (x .slot) 0 0 (omega arith)))
+        let b = bound-slot (c .table) (w .table) x i .0 in
+        let f = w .fits in
+        rw (← q) (getD-set-same (c .values) (x .slot) 0 0 (omega arith)))
         (λ d h. getD-set-other (c .values) (x .slot) t 0 0 (λ q. d (sym q)) ∙ w .zeros t (omega arith));
   }
 
@@ -120,8 +120,8 @@ module _ (R : Cache → Cache → Type 0) (h : CacheChanges R) where
     reset-keeps k =
         asked-keeps k _
         (λ x i.
-            h .goes-on c (unbind x c) _ (h .unbinds c x i)
-            (h .binds (unbind x c) (x .key) (valueOf x c) (x .slot) (c .table .free) (fresh-again x (c .table)) refl))
+        h .goes-on c (unbind x c) _ (h .unbinds c x i)
+        (h .binds (unbind x c) (x .key) (valueOf x c) (x .slot) (c .table .free) (fresh-again x (c .table)) refl))
         (lookup k (c .table)) refl
 
     pub does-keep : (a : CacheCall) → R c (does a c .1)

@@ -15,4 +15,5 @@ pub mod Runs
 pub mod Parts
 pub mod FirstSentence
 pub mod Counted
+pub mod SecondSentence
 pub mod Cases

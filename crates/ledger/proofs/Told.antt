@@ -88,7 +88,7 @@ ordered-place b x (y ∷ ys) n h =
       (
         before-newer b x y l (n .0),
         all-both (λ z. last (b (z .key)) < last (b (x .key))) (Before b y) (Before b x)
-        (λ z q r. let m = before-le b y z r in before-newer b x z (omega arith) q) ys (n .1) (h .0),
+            (λ z q r. let m = before-le b y z r in before-newer b x z (omega arith) q) ys (n .1) (h .0),
       ),
       h,
     ))
