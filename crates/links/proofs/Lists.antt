@@ -1,18 +1,16 @@
 -- What the stores of each call do to the list that two lent tables hold: the laws of rings, at the tables' links.
-use mathlib.Core.Path.{_≡_, refl, sym, ap, _∙_}
+use mathlib.Core.Path.{_≡_, refl, sym, _∙_}
 use mathlib.Core.Logic.{_≢_, _⊎_, inl, inr, ⊎-elim}
-use mathlib.Core.List.{List, [], _∷_, _++_}
+use mathlib.Core.List.{List, _∷_, _++_}
 use Prim.Native.Nat.{ℕ, _<_, _≤_}
 use native.Mathlib.Omega.{arith}
 use lib.ListN.{length, getD, set, length-set}
 use lib.Seq.{getD-set-other}
 use Rattle.numbers.specs.Marks.{NONE}
 use Rattle.lists.specs.Lists.{All, In, Without, Distinct, final}
-use Rattle.lists.proofs.Members.{all-map, all-both, all-mid, all-in, all-of, in-mid}
+use Rattle.lists.proofs.Members.{all-map, all-both, all-mid, all-in, all-of}
 use Rattle.links.specs.Chain.{cells}
-use Rattle.links.specs.Ring.{Links, upd, look}
-use Rattle.links.specs.Lent.{Lent, lent, next, prev, Ring, Fits, Put, Sized, Kept, Elsewhere, Pushed, Unlinked, Moved}
-use Rattle.links.specs.declared.Ends.{Ends}
+use Rattle.links.specs.Lent.{Lent, lent, next, prev, Ring, Fits, Put, Kept, Pushed, Unlinked, Moved}
 use Rattle.links.proofs.Functions.{look-end, look-at, look-swap, look-upd, cells-upd}
 use Rattle.links.proofs.Rings.{links-same, links-one, last-is, once, distinct, around, first, remove, push}
 

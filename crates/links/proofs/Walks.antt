@@ -5,7 +5,7 @@ use mathlib.Core.Logic.{_≢_}
 use mathlib.Core.List.{List, [], _∷_, _++_, append-assoc, append-nil}
 use Prim.Native.Nat.{ℕ}
 use Rattle.numbers.specs.Marks.{NONE}
-use Rattle.lists.specs.Lists.{All, Without, final}
+use Rattle.lists.specs.Lists.{Without, final}
 use Rattle.lists.proofs.Members.{all-right, final-append}
 use Rattle.links.specs.Ring.{Links}
 use Rattle.links.proofs.Rings.{past}

@@ -1,3 +1,4 @@
 pub mod Tests
 pub mod Members
 pub mod Stores
+pub mod Maps

@@ -45,6 +45,10 @@ neither b p q = let z : _≡_ {A = ℕ} 1 0 = ap (λ (c : Bool). cond c 1 0) (sy
 pub says-no : (P : Type 0) → (P → ⊥) → (false ≡ true) ↔ P
 says-no P n = (λ e. absurd (neither false e refl), λ p. absurd (n p))
 
+-- what such an answer says
+pub said-no : (P : Type 0) {b : Bool} → (b ≡ true) ↔ P → b ≡ false → P → ⊥
+said-no P {b} h e p = neither b (h .1 p) e
+
 pub if-same : {A : Type 0} (a b : ℕ) (x y : A) → a ≡ b → cond (eqb a b) x y ≡ x
 if-same a b x y e = if-eq (λ z. z ≡ x) a b (λ s. refl) (λ d. absurd (d e))
 

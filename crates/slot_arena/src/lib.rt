@@ -87,7 +87,7 @@ fn walk(arena: &[u64], first: u64) -> Reached
 }
 
 // How many slots are in use.
-fn count_used(arena: &[u64]) -> u64
+pub fn count_used(arena: &[u64]) -> u64
     ensures { λ r. ⌜ r ≡ usedIn (now (arena .entry)) ⌝ }
 {
     let mut n: u64 = 0;
