@@ -3,14 +3,13 @@
 use mathlib.Core.Path.{_≡_, refl, sym, ap, _∙_}
 use mathlib.Core.List.{List, [], _∷_, map}
 use Prim.Native.Nat.{ℕ, _+_}
-use native.Mathlib.Omega.{arith}
 use Rattle.lists.specs.Lists.{sum}
 use Rattle.ledger.specs.Ledger.{Ledger}
 use Rattle.ledger.specs.Buckets.{Outcome, done, wasDone, batch, counted, insert, touch, remove, insertBatch, touchBatch, removeBatch}
 use Rattle.ledger.specs.Calls.{BucketCall, calls, replies, afterCalls}
 use Rattle.ledger.specs.Calls
 use Rattle.ledger.specs.Cache.{Cache, CacheFormed, Insertion, fresh, freshOut, old, full, newlyBound, Lookup, hit, miss, wasHit, lookupReply, cacheInsert, cacheGet, cacheRemove, cacheInsertBatch, keyBatch, cacheRemoveBatch, cacheTouchBatch}
-use Rattle.ledger.specs.History.{CacheCall, Insert, Get, Remove, Event, inserted, got, removed, does, log, afterAll, says, bindings}
+use Rattle.ledger.specs.History.{CacheCall, Insert, Get, Remove, Event, inserted, does, log, afterAll, says, bindings}
 use Rattle.ledger.specs.Refusals.{eventReply}
 use Rattle.ledger.proofs.CacheKept.{run-formed}
 

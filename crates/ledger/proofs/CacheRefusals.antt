@@ -4,14 +4,14 @@ use mathlib.Core.Path.{_≡_, refl, ap, subst}
 use mathlib.Core.Logic.{_↔_}
 use mathlib.Core.Option.{Option, none, some}
 use mathlib.Core.List.{List, [], _∷_}
-use Prim.Native.Nat.{ℕ, _+_, _≤_}
+use Prim.Native.Nat.{ℕ}
 use native.Mathlib.Omega.{arith}
 use lib.ListN.{length}
 use Rattle.numbers.specs.declared.Answer.{Answer}
 use Rattle.numbers.specs.declared.Answer.the-variants.{Absent, Full, Empty}
-use Rattle.ledger.specs.Ledger.{Item, items, lookup, ifFound, lowest, size}
-use Rattle.ledger.specs.Buckets.{done, refused}
-use Rattle.ledger.specs.Cache.{Cache, CacheFormed, Insertion, insertReply, Lookup, hit, miss, lookupReply, Least, least, nothing, leastReply, insertFull, insertNew, insertAt, cacheInsert, cacheGet, cachePeek, cacheRemove, cacheReset, cachePeekLfu, cacheEvict}
+use Rattle.ledger.specs.Ledger.{Item, lookup, ifFound, lowest, size}
+use Rattle.ledger.specs.Buckets.{refused}
+use Rattle.ledger.specs.Cache.{Cache, CacheFormed, insertReply, Lookup, hit, miss, lookupReply, Least, least, nothing, leastReply, insertFull, insertNew, insertAt, cacheInsert, cacheGet, cachePeek, cacheRemove, cacheReset, cachePeekLfu, cacheEvict}
 use Rattle.ledger.specs.History.{CacheCall, Insert, Get, Peek, Remove, Reset, PeekLfu, Evict, Clear, Len, does}
 use Rattle.ledger.specs.Refusals.{Unbound, eventReply, CacheRefused, gets, peeks, removes, resets, inserts, peeksLfu, evicts}
 use Rattle.ledger.proofs.Rising.{lowest-none, lowest-some}

@@ -1,17 +1,16 @@
 -- The changes that all calls are made of keep a ledger well formed: each field is a sum over the items that gains or loses one
 -- item (Items.antt) and levels that still rise (Rising.antt).
 use mathlib.Core.Path.{_≡_, refl, sym, ap, _∙_}
-use mathlib.Core.Logic.{_≢_}
 use mathlib.Core.Bool.{cond}
 use mathlib.Core.List.{List, [], _∷_}
-use Prim.Native.Nat.{ℕ, _+_, _≤_, _<_}
+use Prim.Native.Nat.{ℕ, _+_, _≤_}
 use native.Mathlib.Omega.{arith}
-use lib.Dec.{eqb, ltb}
+use lib.Dec.{eqb}
 use Rattle.lists.specs.Lists.{In, sum, one, times}
 use Rattle.lists.proofs.Tests.{if-eq, if-lt}
 use Rattle.lists.proofs.Members.{all-in}
 use Rattle.numbers.specs.Frequency.{CEILING, raised}
-use Rattle.ledger.specs.Ledger.{Entry, Level, Ledger, Item, new, item, tag, items, link, unlink, put, release, move, NonEmpty, Rising, keyed, slotted, WellFormed}
+use Rattle.ledger.specs.Ledger.{Entry, Level, Ledger, Item, new, item, tag, items, unlink, put, release, move, NonEmpty, Rising, keyed, WellFormed}
 use Rattle.ledger.specs.Buckets.{dated, redated, atEpoch}
 use Rattle.ledger.proofs.Items.{place, cut, items-unlink, items-link, sum-place, sum-cut-in, keyed-cut-same, keyed-cut-le}
 use Rattle.ledger.proofs.Rising.{rising-unlink, rising-link, Within, all-within}

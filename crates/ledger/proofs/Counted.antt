@@ -1,15 +1,15 @@
 -- The guests counted from the calls are the keys that the ledger binds. A well-formed cache's bound keys are known from its free
 -- slots, so each call need only be looked at for what it does to those.
-use mathlib.Core.Path.{_≡_, refl, sym, ap, _∙_}
+use mathlib.Core.Path.{_≡_, refl, ap, _∙_}
 use mathlib.Core.Option.{Option, none, some}
 use mathlib.Core.List.{List, [], _∷_}
-use Prim.Native.Nat.{ℕ, _+_, _-_, _≤_, _<_}
+use Prim.Native.Nat.{ℕ, _+_, _≤_}
 use native.Mathlib.Omega.{arith}
 use lib.ListN.{length}
 use Rattle.lists.specs.Lists.{In}
 use Rattle.lists.proofs.Members.{in-length}
 use Rattle.ledger.specs.Ledger.{Item, items, lookup, ifFound, size, lowest}
-use Rattle.ledger.specs.Cache.{Cache, CacheFormed, newCache, Lookup, hit, miss, Least, least, nothing, valueOf, unbind, insertFull, insertNew, insertAt, cacheInsert, cacheGet, cachePeek, cacheRemove, cacheReset, cachePeekLfu, cacheEvict, cacheClear}
+use Rattle.ledger.specs.Cache.{Cache, CacheFormed, newCache, Lookup, miss, Least, least, nothing, valueOf, unbind, insertFull, insertNew, insertAt, cacheInsert, cacheGet, cachePeek, cacheRemove, cacheReset, cachePeekLfu, cacheEvict, cacheClear}
 use Rattle.ledger.specs.History.{CacheCall, Insert, Get, Peek, Remove, Reset, PeekLfu, Evict, Clear, Len, Event, inserted, got, peeked, removed, reset, peekedLfu, evicted, does, log, afterAll, says, recount, countFrom, guests}
 use Rattle.ledger.proofs.Items.{found-in}
 use Rattle.ledger.proofs.Rising.{lowest-some}

@@ -1,14 +1,13 @@
 -- Demand 3, first sentence: whoever a call evicts was the tail of the lowest list, and by what holds after any number of calls
 -- (Runs.antt) that guest goes before every other (Told.antt).
-use mathlib.Core.Path.{_≡_, refl, sym, ap, _∙_, subst}
+use mathlib.Core.Path.{_≡_, refl, sym, _∙_, subst}
 use mathlib.Core.Logic.{_⊎_, inl, inr, ⊎-elim}
 use mathlib.Core.Option.{Option, none, some}
-use mathlib.Core.List.{List, [], _∷_, _++_}
+use mathlib.Core.List.{List, [], _∷_}
 use Prim.Native.Nat.{ℕ, _+_, _≤_, _<_}
 use native.Mathlib.Omega.{arith}
 use native.Mathlib.Decide.{ℕ-discrete}
 use lib.ListN.{length}
-use Rattle.lists.specs.Lists.{In}
 use Rattle.ledger.specs.Ledger.{Item, items, lookup, ifFound, lowest, keyed}
 use Rattle.ledger.specs.Cache.{Cache, newCache, Lookup, hit, miss, Least, least, nothing, valueOf, unbind, insertFull, insertNew, insertAt, cacheInsert, cacheGet, cacheRemove, cacheReset, cacheEvict}
 use Rattle.ledger.specs.History.{CacheCall, Insert, Get, Peek, Remove, Reset, PeekLfu, Evict, Clear, Len, Event, inserted, got, removed, reset, evicted, does, log, afterAll, Standing, unbound, guest, standing, Evicts}
@@ -17,7 +16,7 @@ use Rattle.ledger.proofs.Items.{pick}
 use Rattle.ledger.proofs.Rising.{lowest-in}
 use Rattle.ledger.proofs.Told.{Book, last, Knows, Lower, lowest-first}
 use Rattle.ledger.proofs.Runs.{Inv, knows, from-new}
-use Rattle.ledger.proofs.Parts.{Parted, part, part-length}
+use Rattle.ledger.proofs.Parts.{part, part-length}
 
 -- The lowest goes first
 

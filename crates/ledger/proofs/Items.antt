@@ -1,18 +1,16 @@
 -- The levels seen as one list of items: `link` places an item, `unlink` cuts a key out, and what is counted over the items
 -- changes by exactly that item. All counting of the ledger is done here, so that later proofs are sums that omega closes.
 use mathlib.Core.Path.{_≡_, refl, sym, ap, _∙_}
-use mathlib.Core.Logic.{_⊎_, inl, inr, _≢_}
+use mathlib.Core.Logic.{inl, inr, _≢_}
 use mathlib.Core.Bool.{Bool, true, false, cond}
-use mathlib.Core.Option.{Option, none, some}
-use mathlib.Core.List.{List, [], _∷_}
+use mathlib.Core.Option.{none, some}
+use mathlib.Core.List.{List, [], _∷_, _++_}
 use Prim.Native.Nat.{ℕ, _+_, _≤_, _<_}
 use native.Mathlib.Omega.{arith}
 use lib.Dec.{eqb, ltb}
 use Rattle.lists.specs.Lists.{All, In, sum, one}
 use Rattle.lists.proofs.Tests.{if-eq, if-lt, if-same, if-other, if-less, if-not-less, one-same, one-other}
-use Rattle.lists.proofs.Members.{all-map}
-use Rattle.numbers.specs.Frequency.{CEILING}
-use Rattle.ledger.specs.Ledger.{Entry, Level, Item, item, tag, items, found, tail, lowest, level, link, without, unlink, NonEmpty, Rising, keyed}
+use Rattle.ledger.specs.Ledger.{Entry, Level, Item, item, tag, items, found, level, link, without, unlink, NonEmpty, Rising, keyed}
 
 -- What is found
 
@@ -99,6 +97,14 @@ items-link f e lo (l ∷ ls) r =
     front (d ∷ ds) n h = sym (if-not-less (l .frequency) f _ _ h)
 
 -- Counting
+
+pub sum-tag : (g : Item → ℕ) (f : ℕ) (es : List Entry) (xs : List Item) → sum g (tag f es xs) ≡ sum g (tag f es []) + sum g xs
+sum-tag g f [] xs = omega arith
+sum-tag g f (e ∷ es) xs = let ih = sum-tag g f es xs in omega arith
+
+pub tag-append : (f : ℕ) (es ds : List Entry) (xs : List Item) → tag f (es ++ ds) xs ≡ tag f es (tag f ds xs)
+tag-append f [] ds xs = refl
+tag-append f (e ∷ es) ds xs = ap {B = List Item} (λ r. item f e ∷ r) (tag-append f es ds xs)
 
 -- g at the items with the key k, else 0
 abbrev only : ℕ → (Item → ℕ) → Item → ℕ

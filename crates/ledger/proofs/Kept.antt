@@ -1,6 +1,6 @@
 -- What every call of the buckets keeps. `calls-keep` goes once through all calls: a relation between the ledger before and the one
 -- after that holds of the changes which calls are made of holds of every call. Well-formedness and the capacity are two of them.
-use mathlib.Core.Path.{_≡_, refl, sym, ap, _∙_}
+use mathlib.Core.Path.{_≡_, refl, _∙_}
 use mathlib.Core.Option.{Option, none, some}
 use mathlib.Core.List.{List, [], _∷_}
 use Prim.Native.Nat.{ℕ, _≤_}
@@ -8,9 +8,8 @@ use native.Mathlib.Omega.{arith}
 use Rattle.lists.specs.Lists.{In}
 use Rattle.lists.proofs.Tests.{if-eq}
 use Rattle.numbers.specs.Frequency.{CEILING, raised, capOf}
-use Rattle.numbers.specs.declared.Answer.{Answer}
 use Rattle.ledger.specs.Ledger.{Level, Ledger, Item, new, items, lookup, ifFound, lowest, put, release, move, keyed, WellFormed}
-use Rattle.ledger.specs.Buckets.{Outcome, done, refused, insertAs, insert, touchUpTo, touch, touchCapped, remove, popMin, peekMin, minFreq, frequency, entryEpoch, redated, setEntryEpoch, currentEpoch, atEpoch, setEpoch, advanceEpoch, len, isEmpty, contains, clear, batch, insertBatch, touchBatch, removeBatch}
+use Rattle.ledger.specs.Buckets.{Outcome, insertAs, insert, touchUpTo, touch, touchCapped, remove, popMin, peekMin, minFreq, frequency, entryEpoch, redated, setEntryEpoch, currentEpoch, atEpoch, setEpoch, advanceEpoch, len, isEmpty, contains, clear, batch, insertBatch, touchBatch, removeBatch}
 use Rattle.ledger.specs.Rebuild.{rebuild, byLowest, decayHalve, rebaseMinFreq}
 use Rattle.ledger.specs.Calls.{Query, PeekMin, MinFreq, Frequency, EntryEpoch, CurrentEpoch, Len, IsEmpty, Contains, WalkStart, WalkStep, BucketCall, Ask, Insert, Touch, TouchCapped, Remove, PopMin, SetEntryEpoch, SetEpoch, AdvanceEpoch, DecayHalve, RebaseMinFreq, Clear, InsertBatch, TouchBatch, RemoveBatch, asks, calls}
 use Rattle.ledger.proofs.Items.{found-in, found-none}

@@ -1,18 +1,15 @@
 -- The cache's calls are the buckets' calls: a get touches, a remove removes, an evict pops, an insert of an unbound key inserts,
 -- after a pop where no slot is free, and a reset is a remove, then an insert. Also: peek_min names what pop_min takes.
 -- Each is a case split on what is found.
-use mathlib.Core.Path.{_≡_, refl, sym, ap, _∙_}
+use mathlib.Core.Path.{_≡_, refl}
 use mathlib.Core.Option.{Option, none, some}
 use mathlib.Core.List.{List, [], _∷_}
 use Prim.Native.Nat.{ℕ}
-use Rattle.numbers.specs.Frequency.{CEILING, raised}
-use Rattle.numbers.specs.declared.Answer.the-variants.{Absent, Empty}
-use Rattle.ledger.specs.Ledger.{Ledger, Item, items, lookup, ifFound, lowest, release, move}
-use Rattle.ledger.specs.Buckets.{Outcome, done, refused, insert, touchUpTo, touch, remove, popMin, peekMin}
-use Rattle.ledger.specs.Cache.{Cache, Lookup, hit, miss, Least, least, nothing, valueOf, bind, unbind, moved, cacheInsert, cacheGet, cacheRemove, cacheReset, cachePeekLfu, cacheEvict}
+use Rattle.ledger.specs.Ledger.{Ledger, Item, items, lookup, ifFound, lowest, release}
+use Rattle.ledger.specs.Buckets.{Outcome, insert, touchUpTo, touch, remove, popMin, peekMin}
+use Rattle.ledger.specs.Cache.{Cache, Lookup, Least, valueOf, bind, unbind, cacheInsert, cacheGet, cacheRemove, cacheReset, cachePeekLfu, cacheEvict}
 use Rattle.ledger.proofs.Items.{found-in, found-none, none-found}
 use Rattle.ledger.proofs.Changes.{fresh-again, fresh-after}
-use Rattle.ledger.proofs.Kept.{by-found}
 
 -- two choices by what is found agree where both of their cases do
 both-found : {A B : Type 0} {C : Type 0} (p : A → C) (q : B → C) (o : Option Item) (a : A) (b : B) (f : Item → A) (g : Item → B) →

@@ -16,4 +16,5 @@ pub mod Parts
 pub mod FirstSentence
 pub mod Counted
 pub mod SecondSentence
+pub mod Split
 pub mod Cases

@@ -2,12 +2,12 @@
 -- all items, since every slot is below the capacity (`upper`); the refilling then counts each key once and each new slot once.
 use mathlib.Core.Path.{_≡_, refl, sym, ap, subst}
 use mathlib.Core.Bool.{Bool, true, false, cond}
-use mathlib.Core.List.{List, [], _∷_, _++_}
+use mathlib.Core.List.{List, [], _∷_}
 use Prim.Native.Nat.{ℕ, zero, suc, _+_, _-_, _≤_, _<_}
 use native.Mathlib.Omega.{arith}
 use lib.Dec.{eqb, ltb}
 use lib.ListN.{length}
-use Rattle.lists.specs.Lists.{All, In, from, sum, one, times}
+use Rattle.lists.specs.Lists.{All, from, sum, one, times}
 use Rattle.lists.proofs.Tests.{if-eq, if-lt, if-less, if-not-less}
 use Rattle.lists.proofs.Members.{all-map, all-of, all-append, sum-append, length-sum}
 use Rattle.numbers.specs.Frequency.{CEILING, halved}

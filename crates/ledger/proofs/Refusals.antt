@@ -1,17 +1,16 @@
 -- Each refusal is given exactly when document 01 says, and a refused call leaves the ledger as it was. One law on a choice by what
 -- is found (`no-item`) serves every call that needs a key or some key; what it asks of the ledger comes from well-formedness.
-use mathlib.Core.Path.{_≡_, refl, sym, ap, _∙_, subst}
+use mathlib.Core.Path.{_≡_, refl, ap, subst}
 use mathlib.Core.Logic.{_↔_}
 use mathlib.Core.Option.{Option, none, some}
 use mathlib.Core.List.{List, [], _∷_}
-use Prim.Native.Nat.{ℕ, _+_, _≤_}
+use Prim.Native.Nat.{ℕ}
 use native.Mathlib.Omega.{arith}
 use lib.ListN.{length}
-use Rattle.lists.specs.Lists.{In}
 use Rattle.numbers.specs.declared.Answer.{Answer}
 use Rattle.numbers.specs.declared.Answer.the-variants.{Absent, Present, Full, Empty}
-use Rattle.ledger.specs.Ledger.{Ledger, Item, items, found, lookup, ifFound, size, lowest, put, keyed, WellFormed}
-use Rattle.ledger.specs.Buckets.{Outcome, Reply, done, refused, insertAs, insert, touchUpTo, touch, touchCapped, remove, popMin, peekMin, minFreq, frequency, entryEpoch, setEntryEpoch, currentEpoch, setEpoch, advanceEpoch, len, isEmpty, contains, clear, insertBatch, touchBatch, removeBatch}
+use Rattle.ledger.specs.Ledger.{Ledger, Item, items, lookup, ifFound, size, lowest, WellFormed}
+use Rattle.ledger.specs.Buckets.{Outcome, done, refused, insertAs, insert, touchUpTo, touch, touchCapped, remove, popMin, peekMin, minFreq, frequency, entryEpoch, setEntryEpoch, currentEpoch, setEpoch, advanceEpoch, len, isEmpty, contains, clear, insertBatch, touchBatch, removeBatch}
 use Rattle.ledger.specs.Rebuild.{decayHalve, rebaseMinFreq}
 use Rattle.ledger.specs.Walk.{Step, here, noMore, absent, stepReply, start, step}
 use Rattle.ledger.specs.Calls.{Query, PeekMin, MinFreq, Frequency, EntryEpoch, CurrentEpoch, Len, IsEmpty, Contains, WalkStart, WalkStep, BucketCall, Ask, Insert, Touch, TouchCapped, Remove, PopMin, SetEntryEpoch, SetEpoch, AdvanceEpoch, DecayHalve, RebaseMinFreq, Clear, InsertBatch, TouchBatch, RemoveBatch, asks, calls}
@@ -19,7 +18,7 @@ use Rattle.ledger.specs.Refusals.{Bound, Unbound, Refused, touches, touc
 use Rattle.ledger.proofs.Items.{found-in, found-none, none-found, in-keyed}
 use Rattle.ledger.proofs.Rising.{lowest-none, lowest-some}
 use Rattle.ledger.proofs.Slots.{size-and-free}
-use Rattle.ledger.proofs.Kept.{by-found, queries-leave}
+use Rattle.ledger.proofs.Kept.{queries-leave}
 use Rattle.ledger.proofs.Walked.{step-absent}
 
 -- What is done is not refused

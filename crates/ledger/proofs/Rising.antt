@@ -1,6 +1,6 @@
 -- Levels that rise: linking and unlinking keep them rising, every item's frequency lies between the bounds, and the tail of the
 -- lowest list is one of the items. Inductions on the levels.
-use mathlib.Core.Path.{_≡_, refl, ap}
+use mathlib.Core.Path.{_≡_, refl}
 use mathlib.Core.Logic.{inl, inr}
 use mathlib.Core.Option.{none, some}
 use mathlib.Core.List.{List, [], _∷_}

@@ -13,7 +13,7 @@ use Rattle.lists.proofs.Tests.{if-eq, if-same, if-other, if-less}
 use Rattle.lists.proofs.Members.{all-in}
 use Rattle.numbers.specs.Frequency.{CEILING, raised}
 use Rattle.ledger.specs.Ledger.{Entry, Item, item, items, lookup, ifFound, lowest, keyed}
-use Rattle.ledger.specs.Cache.{Cache, CacheFormed, newCache, Lookup, hit, miss, Least, least, nothing, bind, unbind, moved, valueOf, insertFull, insertNew, insertAt, cacheInsert, cacheGet, cachePeek, cacheRemove, cacheReset, cachePeekLfu, cacheEvict, cacheClear}
+use Rattle.ledger.specs.Cache.{Cache, CacheFormed, newCache, Lookup, miss, Least, least, nothing, bind, unbind, moved, valueOf, insertFull, insertNew, insertAt, cacheInsert, cacheGet, cachePeek, cacheRemove, cacheReset, cachePeekLfu, cacheEvict, cacheClear}
 use Rattle.ledger.specs.History.{CacheCall, Insert, Get, Peek, Remove, Reset, PeekLfu, Evict, Clear, Len, Event, inserted, got, peeked, removed, reset, peekedLfu, evicted, does, log, afterAll, says, Standing, unbound, guest, struck, next, follow, standing}
 use Rattle.ledger.specs.Demand3.{CALLS}
 use Rattle.ledger.proofs.Items.{found-in, found-none, place, cut, items-unlink, items-link, keyed-cut-same}

@@ -14,13 +14,13 @@ use lib.ListN.{length, length-append}
 use Rattle.lists.proofs.Tests.{if-same, if-other}
 use Rattle.ledger.specs.Ledger.{Item, items, lookup, lowest}
 use Rattle.ledger.specs.Cache.{Cache, newCache, Insertion, fresh, freshOut, old, full, insertFull, insertNew, insertAt, cacheInsert}
-use Rattle.ledger.specs.History.{CacheCall, Insert, Get, Peek, Remove, Reset, PeekLfu, Evict, Clear, Len, Event, inserted, does, log, afterAll, says, Standing, unbound, guest, next, standing, Evicts, EvictedIn}
+use Rattle.ledger.specs.History.{CacheCall, Insert, Get, Peek, Remove, Reset, PeekLfu, Evict, Clear, Len, inserted, does, log, afterAll, says, Standing, unbound, guest, next, standing, Evicts, EvictedIn}
 use Rattle.ledger.specs.Demand3.{CALLS, Bound, HasHits, NoHits, GoesBefore, OnlyInserts, Spares, SecondSentence}
 use Rattle.ledger.proofs.Items.{found-none}
 use Rattle.ledger.proofs.Slots.{size-and-free}
 use Rattle.ledger.proofs.Told.{Book}
 use Rattle.ledger.proofs.Runs.{Inv, step, from-new}
-use Rattle.ledger.proofs.Parts.{Parted, part, part-length}
+use Rattle.ledger.proofs.Parts.{part, part-length}
 use Rattle.ledger.proofs.FirstSentence.{lowest-goes}
 use Rattle.ledger.proofs.Counted.{guests-counted}
 

@@ -1,7 +1,7 @@
 -- The slots of a well-formed ledger, by counting: a bound slot is below the capacity and not free, a free one is not bound, no
 -- two bound keys share a slot, and bound and free slots make up the capacity. The last sums the counts of all slots both ways.
 use mathlib.Core.Path.{_≡_, refl, sym, ap}
-use mathlib.Core.Logic.{inl, inr, _≢_}
+use mathlib.Core.Logic.{inl, inr}
 use mathlib.Core.Bool.{cond}
 use mathlib.Core.List.{List, [], _∷_}
 use Prim.Native.Nat.{ℕ, zero, suc, _+_, _≤_, _<_}

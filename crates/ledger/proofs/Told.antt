@@ -10,7 +10,7 @@ use Prim.Native.Nat.{ℕ, _+_, _≤_, _<_}
 use native.Mathlib.Omega.{arith}
 use native.Mathlib.Decide.{ℕ-discrete}
 use lib.Dec.{eqb}
-use Rattle.lists.specs.Lists.{All, In, one}
+use Rattle.lists.specs.Lists.{All, one}
 use Rattle.lists.proofs.Tests.{if-eq, if-lt, if-same, if-other, one-same}
 use Rattle.lists.proofs.Members.{all-map, all-both, all-in}
 use Rattle.ledger.specs.Ledger.{Entry, Level, Item, item, tag, items, tail, lowest, Rising, keyed}

@@ -2,17 +2,16 @@
 -- that is not bound. Carried by counting: a bound slot stands once among all items, so a step finds its own place in the list.
 use mathlib.Core.Path.{_≡_, refl, sym, ap, _∙_, subst}
 use mathlib.Core.Logic.{_⊎_, inl, inr, _≢_, _↔_, ⊎-elim}
-use mathlib.Core.Bool.{cond}
 use mathlib.Core.List.{List, [], _∷_, _++_, append-assoc}
-use Prim.Native.Nat.{ℕ, _+_, _≤_, _<_}
+use Prim.Native.Nat.{ℕ, _+_, _≤_}
 use native.Mathlib.Omega.{arith}
-use lib.Dec.{eqb}
 use Rattle.lists.specs.Lists.{All, In, sum, one}
-use Rattle.lists.proofs.Tests.{if-eq, if-same, if-other, one-same, one-other}
-use Rattle.lists.proofs.Members.{all-in, all-mid, in-mid, Split, in-split, sum-append, in-sum}
-use Rattle.ledger.specs.Ledger.{Entry, Level, Ledger, Item, item, tag, items, Rising, slotted, WellFormed}
+use Rattle.lists.proofs.Tests.{if-eq, if-same, if-other, one-same}
+use Rattle.lists.proofs.Members.{all-in, all-mid, in-mid, in-split, sum-append, in-sum}
+use Rattle.ledger.specs.Ledger.{Entry, Level, Ledger, Item, tag, items, Rising, slotted, WellFormed}
 use Rattle.ledger.specs.Rebuild.{inSlot}
-use Rattle.ledger.specs.Walk.{Step, here, noMore, absent, listOf, head, start, after, afterItem, step, Shows}
+use Rattle.ledger.specs.Walk.{absent, listOf, head, start, after, step, Shows}
+use Rattle.ledger.proofs.Items.{sum-tag}
 use Rattle.ledger.proofs.Rising.{Within, all-within}
 use Rattle.ledger.proofs.Slots.{below-not, below-le}
 
@@ -34,10 +33,6 @@ in-tag-rest f (e ∷ es) xs x i = inr (in-tag-rest f es xs x i)
 tag-frequency : (f : ℕ) (es : List Entry) → All (λ x. x .frequency ≡ f) (tag f es [])
 tag-frequency f [] = tt
 tag-frequency f (e ∷ es) = (refl, tag-frequency f es)
-
-sum-tag : (g : Item → ℕ) (f : ℕ) (es : List Entry) (xs : List Item) → sum g (tag f es xs) ≡ sum g (tag f es []) + sum g xs
-sum-tag g f [] xs = omega arith
-sum-tag g f (e ∷ es) xs = let ih = sum-tag g f es xs in omega arith
 
 pub listOf-frequency : (f : ℕ) (ls : List Level) → All (λ x. x .frequency ≡ f) (listOf f ls)
 listOf-frequency f [] = tt

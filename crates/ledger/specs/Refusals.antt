@@ -1,7 +1,7 @@
 -- The "exactly when" column of document 01's table, for the calls of the buckets and of the cache. That each call is refused
 -- exactly then is `refused-exactly` and `cache-refused-exactly` of proofs/Refusals.antt.
 use mathlib.Core.Path.{_≡_}
-use mathlib.Core.List.{List, [], _∷_}
+use mathlib.Core.List.{[], _∷_}
 use Prim.Native.Nat.{ℕ, _≤_}
 use Rattle.numbers.specs.declared.Answer.{Answer}
 use Rattle.numbers.specs.declared.Answer.the-variants.{Absent, Present, Full, Empty}

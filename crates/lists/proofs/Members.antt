@@ -1,11 +1,11 @@
 -- Laws of `All`, `In`, `final`, `from` and `sum` over lists that are taken apart and put together. Each is a plain induction on the list.
-use mathlib.Core.Path.{_≡_, refl, sym, ap, _∙_, subst}
-use mathlib.Core.Logic.{_⊎_, inl, inr, _≢_}
+use mathlib.Core.Path.{_≡_, refl, ap, subst}
+use mathlib.Core.Logic.{inl, inr}
 use mathlib.Core.List.{List, [], _∷_, _++_}
 use Prim.Native.Nat.{ℕ, zero, suc, _+_, _≤_, _<_}
 use native.Mathlib.Omega.{arith}
 use lib.ListN.{length}
-use Rattle.lists.specs.Lists.{All, In, Without, Distinct, final, from, sum, one, times}
+use Rattle.lists.specs.Lists.{All, In, Without, final, from, sum, times}
 use Rattle.lists.proofs.Tests.{if-eq, by-eq, one-same, one-other}
 
 module _ {A : Type 0} where
