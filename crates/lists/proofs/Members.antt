@@ -1,11 +1,11 @@
 -- Laws of `All`, `In`, `final`, `from` and `sum` over lists that are taken apart and put together. Each is a plain induction on the list.
-use mathlib.Core.Path.{_≡_, refl, ap, subst}
-use mathlib.Core.Logic.{inl, inr}
+use mathlib.Core.Path.{_≡_, refl, sym, ap, subst}
+use mathlib.Core.Logic.{_⊎_, inl, inr, _≢_}
 use mathlib.Core.List.{List, [], _∷_, _++_}
 use Prim.Native.Nat.{ℕ, zero, suc, _+_, _≤_, _<_}
 use native.Mathlib.Omega.{arith}
 use lib.ListN.{length}
-use Rattle.lists.specs.Lists.{All, In, Without, final, from, sum, times}
+use Rattle.lists.specs.Lists.{All, In, Without, Distinct, final, from, sum, times}
 use Rattle.lists.proofs.Tests.{if-eq, by-eq, one-same, one-other}
 
 module _ {A : Type 0} where
@@ -67,6 +67,35 @@ module _ {A : Type 0} where
       let r = in-split x ys i in
       record { before = y ∷ r .before; after = r .after; is = ap {B = List A} (λ zs. y ∷ zs) (r .is) }
 
+  pub in-left : (x : A) (us vs : List A) → In x us → In x (us ++ vs)
+  in-left x (u ∷ us) vs (inl e) = inl e
+  in-left x (u ∷ us) vs (inr i) = inr (in-left x us vs i)
+
+  pub in-right : (x : A) (us vs : List A) → In x vs → In x (us ++ vs)
+  in-right x [] vs i = i
+  in-right x (u ∷ us) vs i = inr (in-right x us vs i)
+
+  pub in-either : (x : A) (us vs : List A) → In x (us ++ vs) → In x us ⊎ In x vs
+  in-either x [] vs i = inr i
+  in-either x (u ∷ us) vs (inl e) = inl (inl e)
+  in-either x (u ∷ us) vs (inr i) = go (in-either x us vs i)
+    where
+      go : In x us ⊎ In x vs → In x (u ∷ us) ⊎ In x vs
+      go (inl j) = inl (inr j)
+      go (inr j) = inr j
+
+  -- another member than the one in the middle
+  pub in-others : (x : A) (us : List A) (s : A) (vs : List A) → (s ≡ x → ⊥) → In x (us ++ s ∷ vs) → In x (us ++ vs)
+  in-others x [] s vs d (inl e) = absurd (d e)
+  in-others x [] s vs d (inr i) = i
+  in-others x (u ∷ us) s vs d (inl e) = inl e
+  in-others x (u ∷ us) s vs d (inr i) = inr (in-others x us s vs d i)
+
+  pub in-put : (x : A) (us : List A) (s : A) (vs : List A) → In x (us ++ vs) → In x (us ++ s ∷ vs)
+  in-put x [] s vs i = inr i
+  in-put x (u ∷ us) s vs (inl e) = inl e
+  in-put x (u ∷ us) s vs (inr i) = inr (in-put x us s vs i)
+
   pub in-length : (x : A) (xs : List A) → In x xs → 1 ≤ length xs
   in-length x (y ∷ ys) i = omega arith
 
@@ -125,3 +154,17 @@ times-without s (x ∷ xs) h = ((λ e. absurd (omega (arith, one-same x s e))), 
 
 pub in-without : (s : ℕ) (xs : List ℕ) → In s xs → Without s xs → ⊥
 in-without s xs i w = omega (arith, in-times s xs i, without-times s xs w)
+
+-- two lists without a common member, put together and taken apart
+pub distinct-append : (us vs : List ℕ) → Distinct us → Distinct vs → All (λ y. Without y us) vs → Distinct (us ++ vs)
+distinct-append [] vs d e a = e
+distinct-append (x ∷ us) vs d e a = (
+  all-append (λ y. y ≢ x) us vs (d .0) (all-map (λ y. Without y (x ∷ us)) (λ y. y ≢ x) (λ y w q. w .0 (sym q)) vs a),
+  distinct-append us vs (d .1) e (all-map (λ y. Without y (x ∷ us)) (λ y. Without y us) (λ y w. w .1) vs a),
+)
+
+pub distinct-apart : (us vs : List ℕ) → Distinct (us ++ vs) → All (λ y. Without y us) vs
+distinct-apart [] vs d = all-any (λ y. Without y []) (λ y. tt) vs
+distinct-apart (x ∷ us) vs d =
+    all-both (λ y. y ≢ x) (λ y. Without y us) (λ y. Without y (x ∷ us)) (λ y q w. ((λ e. q (sym e)), w)) vs
+    (all-right (λ y. y ≢ x) us vs (d .0)) (distinct-apart us vs (d .1))

@@ -1,5 +1,5 @@
 -- Why the check is exact. What carries it: the walk sees the one chain there can be, and the slots in use are all the others exactly when the two counts make up the whole.
-use mathlib.Core.Path.{_≡_, refl, sym, ap, _∙_}
+use mathlib.Core.Path.{_≡_, sym, ap, _∙_}
 use mathlib.Core.Logic.{_≢_, _↔_}
 use mathlib.Core.Bool.{true, false}
 use mathlib.Core.List.{List}
@@ -9,7 +9,7 @@ use lib.ListN.{length, getD}
 use lib.Dec.{eqb}
 use borrow.Author.Tests.{eq-eqb, ne-eqb, eqb-true}
 use Rattle.numbers.specs.Marks.{LIMIT, NONE}
-use Rattle.lists.specs.Lists.{All, final}
+use Rattle.lists.specs.Lists.{All, Without, final}
 use Rattle.lists.proofs.Members.{all-map}
 use Rattle.links.specs.Chain.{Chain, cells}
 use Rattle.links.proofs.Chains.{chain-distinct, chain-below, chain-unmarked, chain-length}
@@ -26,13 +26,13 @@ module _ (t : List ℕ) (f : ℕ) (fs : List ℕ) (limit : length t ≤ LIMIT) (
       (chain-unmarked (length t) (cells t) limit f fs chain)
 
   -- if the slots in use make up the whole, then all others are in use
-  pub counted-others : usedIn t + length fs ≡ length t → (s : ℕ) → s < length t → All (λ x. x ≢ s) fs → getD t s 0 ≡ USED
+  pub counted-others : usedIn t + length fs ≡ length t → (s : ℕ) → s < length t → Without s fs → getD t s 0 ≡ USED
   counted-others e s l w =
       eqb-true (getD t s 0) USED
       (pigeon-others (marked t) (length t) fs (chain-distinct (length t) (cells t) limit f fs chain) (chain-below (length t) (cells t) f fs chain) unmarked e s l w)
 
   -- and if all others are in use, then they make up the whole
-  pub others-counted : ((s : ℕ) → s < length t → All (λ x. x ≢ s) fs → getD t s 0 ≡ USED) → usedIn t + length fs ≡ length t
+  pub others-counted : ((s : ℕ) → s < length t → Without s fs → getD t s 0 ≡ USED) → usedIn t + length fs ≡ length t
   others-counted h =
       pigeon-cover (marked t) (length t) fs (chain-distinct (length t) (cells t) limit f fs chain) (chain-below (length t) (cells t) f fs chain) unmarked
       (λ s l w. eq-eqb (getD t s 0) USED (h s l w))

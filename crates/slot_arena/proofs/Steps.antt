@@ -14,9 +14,9 @@ use Rattle.links.specs.Chain.{Chain, cells}
 use Rattle.links.proofs.Chains.{chain-set}
 use Rattle.slot_arena.specs.declared.Order.{Order}
 use Rattle.slot_arena.specs.declared.Taken.{Taken}
-use Rattle.slot_arena.specs.Arena.{USED, Holds, InUse, Filled, Takes, Releases}
+use Rattle.slot_arena.specs.Arena.{USED, Holds, Filled, Takes, Releases}
 use Rattle.slot_arena.specs.Fill.{filledCell}
-use Rattle.slot_arena.proofs.Free.{holds-distinct, first-slot, first-none, marked-without}
+use Rattle.slot_arena.proofs.Free.{holds-distinct, first-none, marked-without}
 
 -- after a store the table is as long, so that a chain in it has as many places
 chain-set-sized : (t : List ℕ) (s v f : ℕ) (xs : List ℕ) → Without s xs → Chain (length t) (cells t) f xs → Chain (length (set t s v)) (cells (set t s v)) f xs

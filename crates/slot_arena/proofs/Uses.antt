@@ -1,17 +1,17 @@
 -- The slots in use as a list that the caller knows. What carries it: the free slots and those in use are as many as the table has, so each slot is one of them, once.
-use mathlib.Core.Path.{_≡_, refl, sym, ap, _∙_, subst}
+use mathlib.Core.Path.{_≡_, sym, ap, _∙_, subst}
 use mathlib.Core.Logic.{_≢_, _↔_}
 use mathlib.Core.List.{List, [], _∷_, _++_}
 use Prim.Native.Nat.{ℕ, _+_, _-_, _≤_, _<_}
 use native.Mathlib.Omega.{arith}
-use lib.ListN.{length, getD, length-append}
+use lib.ListN.{length, length-append}
 use Rattle.lists.specs.Lists.{All, In, Without, Distinct, from, times}
 use Rattle.lists.proofs.Tests.{by-eq}
 use Rattle.lists.proofs.Members.{all-map, all-both, all-in, all-mid, all-put, all-from, length-from, times-in, without-times}
 use Rattle.links.proofs.Pigeonhole.{length-total, distinct-times, total-add, total-ones, total-tight}
 use Rattle.slot_arena.specs.declared.Order.{Order}
 use Rattle.slot_arena.specs.declared.Taken.{Taken}
-use Rattle.slot_arena.specs.Arena.{USED, InUse, Holds, Sound, Uses, Filled, Takes, Releases}
+use Rattle.slot_arena.specs.Arena.{InUse, Holds, Uses, Filled, Takes, Releases}
 use Rattle.slot_arena.proofs.Free.{holds-one, holds-distinct, holds-below, first-slot, marked-without, in-use-exact}
 
 -- ---- each slot once

@@ -10,7 +10,7 @@ use borrow.Author.Tests.{eq-eqb, ne-eqb}
 use Rattle.links.specs.Marks.{mark, count}
 use Rattle.links.proofs.Pigeonhole.{count-more}
 use Rattle.slot_arena.specs.Arena.{USED}
-use Rattle.slot_arena.specs.Check.{marked, usedIn}
+use Rattle.slot_arena.specs.Check.{marked}
 use Rattle.slot_arena.proofs.count_used.Statement.{statement}
 use Rattle.slot_arena.proofs.count_used.Tie as tie
 

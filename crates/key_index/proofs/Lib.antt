@@ -1,0 +1,9 @@
+pub mod Class
+pub mod Ascending
+pub mod Words
+pub mod Listing
+pub mod Placing
+pub mod Steps
+pub mod Cleared
+pub mod Check
+pub mod Frame

@@ -1,0 +1,5 @@
+pub mod Class
+pub mod Index
+pub mod Cleared
+pub mod Places
+pub mod Check
