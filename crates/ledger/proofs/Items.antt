@@ -38,6 +38,15 @@ pub in-keyed : (xs : List Item) (x : Item) → In x xs → 1 ≤ keyed (x .key) 
 in-keyed (y ∷ ys) x (inl e) = omega (arith, one-same (y .key) (x .key) (ap (λ (z : Item). z .key) e))
 in-keyed (y ∷ ys) x (inr i) = let r = in-keyed ys x i in omega arith
 
+-- an item whose key stands once is what is found
+pub in-found : (xs : List Item) (x : Item) → In x xs → keyed (x .key) xs ≤ 1 → found (x .key) xs ≡ some x
+in-found (y ∷ ys) x (inl e) h = if-same (y .key) (x .key) (some y) (found (x .key) ys) (ap (λ (z : Item). z .key) e) ∙ ap some e
+in-found (y ∷ ys) x (inr i) h =
+    let c = in-keyed ys x i in
+    if-eq (λ z. z ≡ some x) (y .key) (x .key)
+    (λ s. absurd (omega (arith, one-same (y .key) (x .key) s)))
+    (λ d. in-found ys x i (omega arith))
+
 -- an item with the key k, and what holds of it as of all
 pub pick : (P : Item → Type 0) (k : ℕ) (xs : List Item) → All P xs → 1 ≤ keyed k xs → (y : Item) × In y xs × (y .key ≡ k) × P y
 pick P k [] h c = absurd (omega arith)
@@ -95,6 +104,11 @@ items-link f e lo (l ∷ ls) r =
     front : (es : List Entry) → NonEmpty es → f ≤ l .frequency →
         item f e ∷ tag (l .frequency) es (items ls) ≡ place (item f e) (tag (l .frequency) es (items ls))
     front (d ∷ ds) n h = sym (if-not-less (l .frequency) f _ _ h)
+
+-- what stands behind a list stands in the whole
+pub in-tag-rest : (f : ℕ) (es : List Entry) (xs : List Item) (x : Item) → In x xs → In x (tag f es xs)
+in-tag-rest f [] xs x i = i
+in-tag-rest f (e ∷ es) xs x i = inr (in-tag-rest f es xs x i)
 
 -- Counting
 

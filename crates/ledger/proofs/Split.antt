@@ -1,18 +1,19 @@
 -- The changes of the levels, where the place of a key is known: ls ≡ us ++ f:[xs, e, ys] ∷ vs. For the layers that keep lists in
 -- tables and know such a place. Unlinking leaves the others as they were, since keys differ; linking finds the place by the
 -- frequencies, which rise.
-use mathlib.Core.Path.{_≡_, refl, ap, _∙_}
-use mathlib.Core.Logic.{_≢_}
-use mathlib.Core.Bool.{cond}
-use mathlib.Core.List.{List, [], _∷_, _++_}
+use mathlib.Core.Path.{_≡_, refl, sym, ap, _∙_}
+use mathlib.Core.Logic.{inl, _≢_}
+use mathlib.Core.Bool.{Bool, true, false, cond}
+use mathlib.Core.List.{List, [], _∷_, _++_, append-assoc, append-nil}
 use Prim.Native.Nat.{ℕ, _+_, _≤_, _<_}
 use native.Mathlib.Omega.{arith}
-use lib.Dec.{eqb}
-use Rattle.lists.specs.Lists.{All, one}
+use lib.Dec.{eqb, ltb}
+use Rattle.lists.specs.Lists.{All, In, one}
 use Rattle.lists.proofs.Tests.{if-same, if-other, if-less, if-not-less, one-same}
-use Rattle.lists.proofs.Members.{all-map}
-use Rattle.ledger.specs.Ledger.{Entry, Level, Item, tag, items, level, link, without, unlink, NonEmpty, Rising, keyed}
-use Rattle.ledger.proofs.Items.{sum-tag, tag-append}
+use Rattle.lists.proofs.Members.{all-map, all-append}
+use Rattle.numbers.specs.Frequency.{raised}
+use Rattle.ledger.specs.Ledger.{Entry, Level, Item, item, tag, items, level, link, without, unlink, NonEmpty, Rising, keyed}
+use Rattle.ledger.proofs.Items.{sum-tag, tag-append, in-tag-rest}
 
 abbrev pub level-of : ℕ → List Entry → Level
 level-of f es = record { frequency = f; entries = es }
@@ -86,6 +87,43 @@ joined-back f e [] [] h = refl
 joined-back f e [] (v ∷ vs) h = if-other (v .frequency) f _ _ (λ q. let p = h .0 in absurd (omega arith))
 joined-back f e (z ∷ zs) vs h = if-same f f _ _ refl
 
+level-append : (f : ℕ) (zs : List Entry) (us vs : List Level) → us ++ level f zs vs ≡ (us ++ level f zs []) ++ vs
+level-append f [] us vs = ap (λ ls. ls ++ vs) (sym (append-nil us))
+level-append f (z ∷ zs) us vs = sym (append-assoc us (level-of f (z ∷ zs) ∷ []) vs)
+
+below-level : (f : ℕ) (zs : List Entry) (us : List Level) → Below f us → Below (f + 1) (us ++ level f zs [])
+below-level f zs us h =
+    all-append (λ (l : Level). l .frequency < f + 1) us (level f zs [])
+    (all-map (λ (l : Level). l .frequency < f) (λ (l : Level). l .frequency < f + 1) (λ l q. omega arith) us h) (own zs)
+  where
+    own : (zs : List Entry) → Below (f + 1) (level f zs [])
+    own [] = tt
+    own (z ∷ zs) = (omega arith, tt)
+
+from-above : (f : ℕ) (vs : List Level) → All (λ (l : Level). f < l .frequency) vs → From f vs
+from-above f vs h = all-map (λ (l : Level). f < l .frequency) (λ (l : Level). f ≤ l .frequency) (λ l q. omega arith) vs h
+
+from-level : (f : ℕ) (zs : List Entry) (vs : List Level) → All (λ (l : Level). f < l .frequency) vs → From f (level f zs vs)
+from-level f [] vs h = from-above f vs h
+from-level f (z ∷ zs) vs h = (omega arith, from-above f vs h)
+
+-- where an entry of level f goes by a hit: one level up while below the cap, else to the head of its own list
+abbrev pub hitAt : ℕ → Entry → ℕ → List Entry → List Level → List Level
+hitAt cap e f zs vs = cond (ltb f cap) (level f zs (joined (f + 1) e vs)) (level-of f (e ∷ zs) ∷ vs)
+
+pub hit-at : (cap : ℕ) (e : Entry) (us : List Level) (f : ℕ) (zs : List Entry) (vs : List Level) → Below f us → All (λ (l : Level). f < l .frequency) vs →
+    link (raised cap f) e (us ++ level f zs vs) ≡ us ++ hitAt cap e f zs vs
+hit-at cap e us f zs vs hu hv = go (ltb f cap)
+  where
+    go : (b : Bool) → link (cond b (f + 1) f) e (us ++ level f zs vs) ≡ us ++ cond b (level f zs (joined (f + 1) e vs)) (level-of f (e ∷ zs) ∷ vs)
+    go true =
+        ap (link (f + 1) e) (level-append f zs us vs)
+        ∙ link-at (f + 1) e (us ++ level f zs []) vs (below-level f zs us hu)
+        (all-map (λ (l : Level). f < l .frequency) (λ (l : Level). f + 1 ≤ l .frequency) (λ l q. omega arith) vs hv)
+        ∙ sym (level-append f zs us (joined (f + 1) e vs))
+    go false =
+        link-at f e us (level f zs vs) hu (from-level f zs vs hv) ∙ ap (λ ls. us ++ ls) (joined-back f e zs vs hv)
+
 -- What rising and the counts of keys say of a place
 
 pub rising-full : (a : ℕ) (ls : List Level) → Rising a ls → Full ls
@@ -128,6 +166,13 @@ keyed-at k (u ∷ us) f xs e ys vs q =
     let ih = keyed-at k us f xs e ys vs q in
     let t = sum-tag (λ x. one (x .key) k) (u .frequency) (u .entries) (items (us ++ level-of f (xs ++ e ∷ ys) ∷ vs)) in
     omega arith
+
+-- the item at a place is one of the items
+pub in-items : (us : List Level) (f : ℕ) (xs : List Entry) (e : Entry) (ys : List Entry) (vs : List Level) →
+    In (item f e) (items (us ++ level-of f (xs ++ e ∷ ys) ∷ vs))
+in-items [] f xs e ys vs = rw (tag-append f xs (e ∷ ys) (items vs)) (in-tag-rest f xs (tag f (e ∷ ys) (items vs)) (item f e) (inl refl))
+in-items (u ∷ us) f xs e ys vs =
+    in-tag-rest (u .frequency) (u .entries) (items (us ++ level-of f (xs ++ e ∷ ys) ∷ vs)) (item f e) (in-items us f xs e ys vs)
 
 -- a key that stands once, at the place, stands nowhere else
 pub record Alone (k : ℕ) (us : List Level) (xs ys : List Entry) (vs : List Level) : Type 0 where

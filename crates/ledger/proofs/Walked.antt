@@ -11,7 +11,7 @@ use Rattle.lists.proofs.Members.{all-in, all-mid, in-mid, in-split, sum-append,
 use Rattle.ledger.specs.Ledger.{Entry, Level, Ledger, Item, tag, items, Rising, slotted, WellFormed}
 use Rattle.ledger.specs.Rebuild.{inSlot}
 use Rattle.ledger.specs.Walk.{absent, listOf, head, start, after, step, Shows}
-use Rattle.ledger.proofs.Items.{sum-tag}
+use Rattle.ledger.proofs.Items.{sum-tag, in-tag-rest}
 use Rattle.ledger.proofs.Rising.{Within, all-within}
 use Rattle.ledger.proofs.Slots.{below-not, below-le}
 
@@ -25,10 +25,6 @@ tag-in f (e ∷ es) xs x (inr i) = ⊎-elim (λ j. inl (inr j)) (λ j. inr j) (t
 in-tag : (f : ℕ) (es : List Entry) (xs : List Item) (x : Item) → In x (tag f es []) → In x (tag f es xs)
 in-tag f (e ∷ es) xs x (inl p) = inl p
 in-tag f (e ∷ es) xs x (inr i) = inr (in-tag f es xs x i)
-
-in-tag-rest : (f : ℕ) (es : List Entry) (xs : List Item) (x : Item) → In x xs → In x (tag f es xs)
-in-tag-rest f [] xs x i = i
-in-tag-rest f (e ∷ es) xs x i = inr (in-tag-rest f es xs x i)
 
 tag-frequency : (f : ℕ) (es : List Entry) → All (λ x. x .frequency ≡ f) (tag f es [])
 tag-frequency f [] = tt
