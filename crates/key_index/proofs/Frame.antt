@@ -61,6 +61,11 @@ module _ (index keys keys' : List ℕ) (size : length keys' ≡ length keys) whe
       kept : (c : ℕ) (ss : List ℕ) → Listed index keys c ss → All (λ s. cells keys' s ≡ cells keys s) ss
       kept c ss l = all-map (Has index keys) (λ s. cells keys' s ≡ cells keys s) same ss (listed-has index keys (sound .limit) c ss l)
 
+  -- and a search of it answers as it did
+  pub finds-frame : ((s : ℕ) → Has index keys s → cells keys' s ≡ cells keys s) → (key : ℕ) (r : Found) → Finds index keys key r → Finds index keys' key r
+  finds-frame same key (At s) f = (has-frame (s .0) .1 (f .0), same (s .0) (f .0) ∙ f .1)
+  finds-frame same key Nothing f = λ s h e. f s (has-frame s .0 h) (sym (same s (has-frame s .0 h)) ∙ e)
+
 -- ---- other places
 
 -- two indexes with the same slots in answer alike, wherever they keep them

@@ -128,6 +128,15 @@ module _ (index keys : List ℕ) (s w : ℕ) (sound : Sound index keys) (p : Pla
         (all-both (λ y. length keys + y ≢ w) (λ y. y ≢ s) (λ y. linkOf index' keys y ≡ linkOf index keys y) (λ y m n. same (length keys + y) m (λ e. n (omega arith))) ys a b)
         q
 
+    -- whether another slot is in, where the word w holds no mark before and after
+    others-stay : getD index w 0 ≢ OUT → getD index' w 0 ≢ OUT → (x : ℕ) → x ≢ s → Has index' keys x ↔ Has index keys x
+    others-stay a b x n =
+        by-eq (length keys + x) w
+        (λ e. (λ h. (h .0, λ q. a (ap (cells index) (sym e) ∙ q)), λ h. (h .0, λ q. b (ap (cells index') (sym e) ∙ q))))
+        (λ d.
+        let e = same (length keys + x) d (λ i. n (omega arith)) in
+        (λ h. (h .0, λ q. h .1 (e ∙ q)), λ h. (h .0, λ q. h .1 (sym e ∙ q))))
+
   -- ---- insert
 
   abbrev inserted-index : List ℕ
@@ -147,28 +156,17 @@ module _ (index keys : List ℕ) (s w : ℕ) (sound : Sound index keys) (p : Pla
       ∙ getD-set-same index (length keys + s) (getD index w 0) 0 link-below
 
   insert-has : (x : ℕ) → Has inserted-index keys x ↔ ((x ≡ s) ⊎ Has index keys x)
-  insert-has x = (λ h. by-eq x s (λ e. inl e) (λ n. inr (h .0, old h n)), new)
+  insert-has x = (λ h. by-eq x s (λ e. inl e) (λ n. inr (stays n .0 h)), new)
     where
-      old : Has inserted-index keys x → x ≢ s → linkOf index keys x ≢ OUT
-      old h n q =
-          by-eq (length keys + x) w
-          (λ e. omega (arith, head-unmarked, ap (cells index) e))
-          (λ d. h .1 (insert-same (length keys + x) d (λ e. n (omega arith)) ∙ q))
+      stays : x ≢ s → Has inserted-index keys x ↔ Has index keys x
+      stays = others-stay inserted-index insert-same (λ q. omega (arith, head-unmarked)) (λ q. omega (arith, insert-word, slot, sound .limit)) x
 
       at-s : x ≡ s → Has inserted-index keys x
       at-s e = (omega arith, λ q. omega (arith, head-unmarked, insert-link, ap (linkOf inserted-index keys) e))
 
       new : (x ≡ s) ⊎ Has index keys x → Has inserted-index keys x
       new (inl e) = at-s e
-      new (inr h) =
-          by-eq x s at-s
-          (λ n. (
-            h .0,
-            λ q.
-                by-eq (length keys + x) w
-                (λ e. omega (arith, slot, sound .limit, insert-word, ap (cells inserted-index) e))
-                (λ d. h .1 (sym (insert-same (length keys + x) d (λ e. n (omega arith))) ∙ q)),
-          ))
+      new (inr h) = by-eq x s at-s (λ n. stays n .1 h)
 
   insert-listed : Absent index keys (cells keys s) → Listed inserted-index keys (slotClass keys s) (p .before ++ s ∷ p .after)
   insert-listed absent =
@@ -239,22 +237,13 @@ module _ (index keys : List ℕ) (s w : ℕ) (sound : Sound index keys) (p : Pla
     old-rest = subst (Chain (length keys) (linkOf index keys) (getD index w 0)) e (rest index keys (cells keys s) w (placed index keys (cells keys s) w p))
 
     remove-has : (x : ℕ) → Has removed-index keys x ↔ (Has index keys x × (x ≢ s))
-    remove-has x = (λ q. ((q .0, old q), out q), λ q. (q .0 .0, new (q .0) (q .1)))
+    remove-has x = (λ q. (stays (out q) .0 q, out q), λ q. stays (q .1) .1 (q .0))
       where
+        stays : x ≢ s → Has removed-index keys x ↔ Has index keys x
+        stays = others-stay removed-index remove-same (λ q. omega (arith, old-rest .0, slot, sound .limit)) (λ q. h .1 (sym remove-word ∙ q)) x
+
         out : Has removed-index keys x → x ≢ s
         out q i = q .1 (ap (linkOf removed-index keys) i ∙ remove-link)
-
-        old : Has removed-index keys x → linkOf index keys x ≢ OUT
-        old q i =
-            by-eq (length keys + x) w
-            (λ a. omega (arith, sound .limit, slot, old-rest .0, ap (cells index) a))
-            (λ d. q .1 (remove-same (length keys + x) d (λ a. out q (omega arith)) ∙ i))
-
-        new : Has index keys x → x ≢ s → linkOf removed-index keys x ≢ OUT
-        new q n i =
-            by-eq (length keys + x) w
-            (λ a. h .1 (sym remove-word ∙ ap (cells removed-index) (sym a) ∙ i))
-            (λ d. q .1 (sym (remove-same (length keys + x) d (λ a. n (omega arith))) ∙ i))
 
     remove-listed : Listed removed-index keys (slotClass keys s) (p .before ++ ys)
     remove-listed =
