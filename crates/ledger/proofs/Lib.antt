@@ -16,5 +16,6 @@ pub mod Parts
 pub mod FirstSentence
 pub mod Counted
 pub mod SecondSentence
+pub mod Refilled
 pub mod Split
 pub mod Cases

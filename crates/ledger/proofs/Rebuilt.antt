@@ -85,7 +85,7 @@ few xs a (suc n) h =
 
 -- The refilling
 
-abbrev LevelFits : (ℕ → ℕ) → Item → Type 0
+abbrev pub LevelFits : (ℕ → ℕ) → Item → Type 0
 LevelFits g x = (1 ≤ g (x .frequency)) × (g (x .frequency) ≤ CEILING)
 
 refill-rising : (g : ℕ → ℕ) (now s : ℕ) (xs : List Item) (ls : List Level) → All (LevelFits g) xs → Rising 0 ls → Rising 0 (refill g now s xs ls)
@@ -95,7 +95,7 @@ refill-rising g now s (x ∷ xs) ls h r =
     (rising-link (g (x .frequency)) (record { key = x .key; slot = s; epoch = now }) 0 ls (h .0 .0) (h .0 .1) r)
 
 -- what is counted over the refilled items: what the old ones count for at their new slots. `at` is that count
-refill-sum : (g : ℕ → ℕ) (now s : ℕ) (c : Item → ℕ) (at : ℕ → List Item → ℕ) →
+pub refill-sum : (g : ℕ → ℕ) (now s : ℕ) (c : Item → ℕ) (at : ℕ → List Item → ℕ) →
     ((t : ℕ) → at t [] ≡ 0) →
     ((t : ℕ) (x : Item) (xs : List Item) → at t (x ∷ xs) ≡ c (item (g (x .frequency)) (record { key = x .key; slot = t; epoch = now })) + at (t + 1) xs) →
     (xs : List Item) (ls : List Level) → All (LevelFits g) xs → Rising 0 ls →
@@ -110,22 +110,34 @@ refill-sum g now s c at z n (x ∷ xs) ls h r =
     omega (arith, n s x xs)
 
 module _ (g : ℕ → ℕ) (l : Ledger) (w : WellFormed l) (fits : All (LevelFits g) (items (l .levels))) where
-  abbrev gathered : List Item
+  abbrev pub gathered : List Item
   gathered = bySlot (from 0 (l .capacity)) (items (l .levels))
 
-  gathered-fits : All (LevelFits g) gathered
+  pub gathered-fits : All (LevelFits g) gathered
   gathered-fits = all-bySlot (LevelFits g) (from 0 (l .capacity)) (items (l .levels)) fits
 
   slots-below : All (λ x. x .slot < 0 + l .capacity) (items (l .levels))
   slots-below = all-of (λ x. x .slot < 0 + l .capacity) (items (l .levels)) (λ x i. let p = bound-slot l w x i .0 in omega arith)
+
+  -- each key is gathered as often as it is bound, and there are no more items than slots
+  pub gathered-keyed : (k : ℕ) → keyed k gathered ≡ keyed k (items (l .levels))
+  gathered-keyed k =
+      let b = sum-bySlot (λ x. one (x .key) k) 0 (l .capacity) (items (l .levels)) slots-below in
+      let c = upper-zero (λ x. one (x .key) k) (items (l .levels)) in
+      omega arith
+
+  pub gathered-few : length gathered ≤ l .capacity
+  gathered-few =
+      let a = few (items (l .levels)) 0 (l .capacity) (λ t. let p = w .slots t in let q = below-le t (l .capacity) in omega arith) in
+      let n = length-sum gathered in
+      omega arith
 
   -- no key is lost, and none is new
   pub rebuild-keyed : (k : ℕ) → keyed k (items (rebuild g l .levels)) ≡ keyed k (items (l .levels))
   unfolding rebuild
   rebuild-keyed k =
       let a = refill-sum g (l .epoch) 0 (λ x. one (x .key) k) (λ t xs. keyed k xs) (λ t. refl) (λ t x xs. refl) gathered [] gathered-fits tt in
-      let b = sum-bySlot (λ x. one (x .key) k) 0 (l .capacity) (items (l .levels)) slots-below in
-      let c = upper-zero (λ x. one (x .key) k) (items (l .levels)) in
+      let b = gathered-keyed k in
       omega arith
 
   pub rebuild-formed : WellFormed (rebuild g l)
@@ -136,8 +148,7 @@ module _ (g : ℕ → ℕ) (l : Ledger) (w : WellFormed l) (fits : All (LevelFit
     slots = λ s.
         let m = length gathered in
         let a = refill-sum g (l .epoch) 0 (λ x. one (x .slot) s) (λ t xs. times s (from t (length xs))) (λ t. refl) (λ t x xs. refl) gathered [] gathered-fits tt in
-        let few′ = few (items (l .levels)) 0 (l .capacity) (λ t. let p = w .slots t in let q = below-le t (l .capacity) in omega arith) in
-        let n = length-sum gathered in
+        let few′ = gathered-few in
         let p = times-from s 0 m in
         let q = times-from s m (l .capacity - m) in
         let z = below-not s 0 (omega arith) in
