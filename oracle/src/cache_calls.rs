@@ -1,0 +1,94 @@
+//! `drive`'s cache calls, 40 to 48 and 63 to 65, on the original's cache.
+//!
+//! A cache passes some bucket calls on to its buckets; these are answered here too (2, 8, 14, 15, 16, 20). The other bucket
+//! calls would need its private buckets.
+
+use crate::answers::{ABSENT, BAD, EMPTY, FULL, SKIP, batch_keys, done, pair_or, refused, value_or, walked, yes_or_no};
+use crate::cache_walk::walk;
+use crate::input::Record;
+use crate::insertion::{Insertion, insert};
+use crate::policy::lfu::LfuCache;
+use crate::traits::Cache;
+use std::sync::Arc;
+
+pub struct JudgedCache(LfuCache<u64, u64>);
+
+impl JudgedCache {
+    pub fn new(capacity: usize) -> Self {
+        JudgedCache(LfuCache::new(capacity))
+    }
+
+    pub fn answer(&mut self, record: Record) -> String {
+        match record.operation {
+            40..=48 => self.single(record),
+            63..=65 => self.batch(record),
+            2 | 8 | 14..=16 | 20 => self.passed_on(record),
+            1..=21 | 30 | 31 | 60..=62 => SKIP.to_string(),
+            _ => BAD.to_string(),
+        }
+    }
+
+    fn single(&mut self, record: Record) -> String {
+        let (cache, key) = (&mut self.0, record.first);
+        match record.operation {
+            40 => inserted(insert(cache, key, record.second)),
+            41 => value_or(ABSENT, cache.get(&key).map(|value| **value)),
+            42 => value_or(ABSENT, cache.peek(&key).map(|value| **value)),
+            43 => value_or(ABSENT, cache.remove(&key).map(|value| *value)),
+            44 => {
+                cache.clear();
+                done(&[])
+            }
+            45 => pair_or(EMPTY, cache.peek_lfu().map(|(key, value)| (*key, **value))),
+            // evict_min_freq is private; pop_lfu calls it and, without metrics, does nothing else.
+            46 => pair_or(EMPTY, cache.pop_lfu().map(|(key, value)| (key, *value))),
+            47 => value_or(ABSENT, cache.reset_frequency(&key)),
+            _ => done(&[cache.len() as u64]),
+        }
+    }
+
+    fn batch(&mut self, record: Record) -> String {
+        let Some(keys) = batch_keys(record.first, record.second) else {
+            return BAD.to_string();
+        };
+        let count = match record.operation {
+            63 => self.insert_batch(keys),
+            64 => self.0.remove_batch(keys),
+            _ => self.0.touch_batch(keys),
+        };
+        done(&[count as u64])
+    }
+
+    /// Each key with itself as its value. At capacity 0 the original counts every key though it binds none; document 01
+    /// counts newly bound keys, and so none.
+    fn insert_batch(&mut self, keys: Vec<u64>) -> usize {
+        let offered = keys.len();
+        let counted = self.0.insert_batch(keys.into_iter().map(|key| (key, Arc::new(key))));
+        if self.0.capacity() > 0 {
+            return counted;
+        }
+        assert_eq!(counted, offered, "at capacity 0 the original counts every item");
+        0
+    }
+
+    fn passed_on(&mut self, record: Record) -> String {
+        let (cache, key) = (&mut self.0, record.first);
+        match record.operation {
+            2 => value_or(ABSENT, cache.increment_frequency(&key)),
+            8 => value_or(ABSENT, cache.frequency(&key)),
+            14 => done(&[cache.len() as u64]),
+            15 => yes_or_no(cache.len() == 0),
+            16 => yes_or_no(cache.contains(&key)),
+            _ => walked(walk(cache, record.first).into_iter()),
+        }
+    }
+}
+
+fn inserted(insertion: Insertion) -> String {
+    match insertion {
+        Insertion::New => "0 NEW".to_string(),
+        Insertion::NewWithVictim(key) => format!("0 NEW OUT {key}"),
+        Insertion::Old(value) => format!("0 OLD {value}"),
+        Insertion::Full => refused(FULL),
+    }
+}
