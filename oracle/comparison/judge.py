@@ -45,7 +45,8 @@ def output(command, sent, name):
         return f"({name} did not end)".encode()
     if ended.returncode == 0:
         return ended.stdout
-    return ended.stdout + f"({name} ended with status {ended.returncode}) ".encode() + ended.stderr
+    complaint = b" ".join(ended.stderr.split())
+    return ended.stdout + f"({name} ended with status {ended.returncode}) ".encode() + complaint
 
 
 def line_at(lines, place):
