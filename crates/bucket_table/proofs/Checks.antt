@@ -21,10 +21,10 @@ use Rattle.slot_arena.specs.Arena.{InUse}
 use Rattle.slot_arena.specs.Check.{usedIn}
 use Rattle.slot_arena.proofs.Check.{others-counted}
 use Rattle.bucket_table.specs.declared.Buckets.{Buckets}
-use Rattle.bucket_table.specs.Records.{frequency, lower, higher, up, down, InTable, Spot, Row, nums, Rising, Written, Holds, Sound}
+use Rattle.bucket_table.specs.Records.{frequency, lower, higher, up, down, InTable, Spot, Row, nums, Rising, Written, Holds, Sound, rowOf}
 use Rattle.bucket_table.specs.Check.{Sized, RecordOk, RecordsWalk}
 use Rattle.bucket_table.proofs.Rows.{clear, rising-around}
-use Rattle.bucket_table.proofs.One.{row-of, rows-of}
+use Rattle.bucket_table.proofs.One.{rows-of}
 
 -- ---- one record
 
@@ -47,7 +47,7 @@ pub record Climb (b sp : List ℕ) (s : Buckets) (used number at low left : ℕ)
   pub passed : List ℕ
   pub walk : Walk (up b s) (down b s) passed at number
   pub marks : All (InUse sp) passed
-  pub rises : (ws : List Row) → Rising low ws → Rising 0 (map (row-of b) passed ++ ws)
+  pub rises : (ws : List Row) → Rising low ws → Rising 0 (map (rowOf b) passed ++ ws)
   pub low-is : (g : ℕ) → 0 < g → All (λ r. frequency b r < g) passed → low < g
   pub spent : left + length passed ≡ used
 
@@ -68,7 +68,7 @@ used-many b sp s ws h =
     let m = h .uses .many in
     omega (arith, others-counted sp (s .spare .first) (h .uses .sound .0) (free .limit) (free .chain) (free .others))
 
-nums-of : (b : List ℕ) (rs : List ℕ) → nums (map (row-of b) rs) ≡ rs
+nums-of : (b : List ℕ) (rs : List ℕ) → nums (map (rowOf b) rs) ≡ rs
 nums-of b [] = refl
 nums-of b (r ∷ rs) = ap (λ (l : List ℕ). r ∷ l) (nums-of b rs)
 
@@ -77,14 +77,14 @@ module _ (b sp : List ℕ) (s : Buckets) (used number at low left : ℕ) (w : Cl
   next : number ≢ NONE → (ws : List Row) → Holds b sp s ws → RecordOk b sp low at number × (length (w .passed) + 1 ≤ length (nums ws))
   next ne ws h =
       let q = walk-next (up b s) (down b s) (w .passed) at number (w .walk) ne (nums ws) (clear b sp s ws h) (h .ring) in
-      let e : ws ≡ map (row-of b) (w .passed) ++ row-of b number ∷ map (row-of b) (q .0) =
-      rows-of b ws (h .each) ∙ ap (map (row-of b)) (q .1) ∙ map-append (row-of b) (w .passed) (number ∷ q .0) in
-      let ri = rising-around 0 (map (row-of b) (w .passed)) (row-of b number) (map (row-of b) (q .0)) (subst (Rising 0) e (h .rising)) in
+      let e : ws ≡ map (rowOf b) (w .passed) ++ rowOf b number ∷ map (rowOf b) (q .0) =
+      rows-of b ws (h .each) ∙ ap (map (rowOf b)) (q .1) ∙ map-append (rowOf b) (w .passed) (number ∷ q .0) in
+      let ri = rising-around 0 (map (rowOf b) (w .passed)) (rowOf b number) (map (rowOf b) (q .0)) (subst (Rising 0) e (h .rising)) in
       let n = ap length (q .1) in (
         record {
           used = all-mid (InUse sp) (w .passed) number (q .0) (subst (All (InUse sp)) (q .1) (h .uses .marks)) .0;
           back = sym (look-at (lower b) (s .top) number ne) ∙ q .2;
-          above = w .low-is (frequency b number) (ri .1) (images-all (row-of b) (λ u. u .freq < frequency b number) (w .passed) (ri .0));
+          above = w .low-is (frequency b number) (ri .1) (images-all (rowOf b) (λ u. u .freq < frequency b number) (w .passed) (ri .0));
           ceiling = ri .2;
         },
         omega (arith, length-append (w .passed) (number ∷ q .0)),
@@ -108,7 +108,7 @@ module _ (b sp : List ℕ) (s : Buckets) (used number at low left : ℕ) (w : Cl
         walk = subst (Walk (up b s) (down b s) (w .passed ++ number ∷ []) number) (sym en) (walk-on (up b s) (down b s) (w .passed) at number (w .walk) ne (look-at (lower b) (s .top) number ne ∙ k .back));
         marks = all-append (InUse sp) (w .passed) (number ∷ []) (w .marks) (k .used, tt);
         rises = λ ws r.
-            rw (map-append (row-of b) (w .passed) (number ∷ []), append-assoc) (w .rises (row-of b number ∷ ws) (k .above, k .ceiling, rw ef at r));
+            rw (map-append (rowOf b) (w .passed) (number ∷ []), append-assoc) (w .rises (rowOf b number ∷ ws) (k .above, k .ceiling, rw ef at r));
         low-is = λ g z h. rw ef (all-right (λ r. frequency b r < g) (w .passed) (number ∷ []) h .0);
         spent = omega (arith, length-append (w .passed) (number ∷ []));
       }
@@ -125,7 +125,7 @@ module _ (b sp : List ℕ) (s : Buckets) (used number at low left : ℕ) (w : Cl
     good = λ u so q.
         let en = nums-of b (w .passed) in let n = ap length en in let p = w .spent in
         let free = so .1 in (
-          map (row-of b) (w .passed),
+          map (rowOf b) (w .passed),
           record {
             size = z .size;
             ring = rw en (walk-end (up b s) (down b s) (w .passed) at number (w .walk) e (look-end (lower b) (s .top) ∙ eqb-true (s .top) at q));
@@ -134,7 +134,7 @@ module _ (b sp : List ℕ) (s : Buckets) (used number at low left : ℕ) (w : Cl
               many = omega (arith, others-counted sp (s .spare .first) (so .0) (free .limit) (free .chain) (free .others));
               marks = rw en (w .marks);
             };
-            each = all-images (row-of b) (Written b) (w .passed) (all-any (λ r. Written b (row-of b r)) (λ r. record { freq-is = refl; head-is = refl; tail-is = refl }) (w .passed));
+            each = all-images (rowOf b) (Written b) (w .passed) (all-any (λ r. Written b (rowOf b r)) (λ r. record { freq-is = refl; head-is = refl; tail-is = refl }) (w .passed));
             rising = rw append-nil at (w .rises [] tt);
           },
         );

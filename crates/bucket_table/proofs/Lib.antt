@@ -1,6 +1,6 @@
 pub mod Words
 pub mod Rows
 pub mod Steps
+pub mod One
 pub mod Places
 pub mod Checks
-pub mod One

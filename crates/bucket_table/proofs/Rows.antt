@@ -131,3 +131,7 @@ module _ (b sp : List ℕ) (s : Buckets) where
 
     pub others-written : All (Written b) (us ++ vs)
     others-written = all-mid (Written b) us w vs (h .each) .1
+
+  -- the record above a row's is that of the next row
+  pub next-row : (us : List Row) (w v : Row) (vs : List Row) → Holds b sp s (us ++ w ∷ v ∷ vs) → up b s (w .num) ≡ v .num
+  next-row us w v vs h = past (up b s) (down b s) NONE (nums us) (nums (w ∷ v ∷ vs)) NONE (ring-parts us (w ∷ v ∷ vs) h) .2 .0

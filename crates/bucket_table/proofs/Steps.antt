@@ -191,6 +191,7 @@ module _ (b sp : List ℕ) (s : Buckets) (at₀ g : ℕ) (pre : Making b sp s at
 
   pub makes : Makes b sp s at₀ g b' sp' (record { number = q; state = s' })
   makes = record {
+    number-in = let e = tk .slot in let l = pre .room in let z = pre .size in let w = sizes in omega arith;
     size = sizes;
     spares-size = tk .size;
     owners = rest 5 (omega arith) ∙ fl .owners;

@@ -1,6 +1,6 @@
 -- What each call does to the rows. A call that is lent one of the two tables says it for every other table that fits.
 use mathlib.Core.Path.{_≡_}
-use mathlib.Core.Logic.{_≢_}
+use mathlib.Core.Logic.{_≢_, _⊎_}
 use mathlib.Core.List.{List, [], _∷_, _++_}
 use Prim.Native.Nat.{ℕ, _*_, _<_, _≤_}
 use lib.ListN.{length}
@@ -11,7 +11,7 @@ use Rattle.links.specs.Ring.{upd, look}
 use Rattle.links.specs.declared.Ends.{Ends}
 use Rattle.bucket_table.specs.declared.Buckets.{Buckets}
 use Rattle.bucket_table.specs.declared.Made.{Made}
-use Rattle.bucket_table.specs.Records.{WORDS, word, frequency, lower, higher, head, tail, owner, Spot, Row, row, empty, nums, Holds}
+use Rattle.bucket_table.specs.Records.{WORDS, word, frequency, lower, higher, head, tail, owner, up, InTable, Spot, Row, row, empty, nums, Holds}
 
 -- ---- the words
 
@@ -67,12 +67,31 @@ pub record Making (b sp : List ℕ) (s : Buckets) (at : ℕ) : Type 0 where
   pub place : Spot b at
 
 pub record Makes (b sp : List ℕ) (s : Buckets) (at g : ℕ) (b' sp' : List ℕ) (m : Made) : Type 0 where
+  pub number-in : InTable b' (m .number)
   pub size : length b' ≡ length b
   pub spares-size : length sp' ≡ length sp
   pub owners : owner b' ≡ owner b
   pub rows : (us vs : List Row) → at ≡ final NONE (nums us) → length (nums (us ++ vs)) < length sp
       → 1 ≤ g → g ≤ CEILING → All (λ w. w .freq < g) us → All (λ w. g < w .freq) vs
       → Holds b sp s (us ++ vs) → Holds b' sp' (m .state) (us ++ row (m .number) g empty ∷ vs)
+
+-- the same, and what is above `at` is a record or NONE
+pub record Opening (b sp : List ℕ) (s : Buckets) (at : ℕ) : Type 0 where
+  pub making : Making b sp s at
+  pub above : Spot b (up b s at)
+
+-- the rows vs with record q of frequency g in front: it is the first of them already, or it is new and its list is empty
+abbrev pub Opened : ℕ → ℕ → List Row → List Row → Type 0
+Opened q g vs ws = (((e : Ends) × (rest : List Row) × (vs ≡ row q g e ∷ rest)) × (ws ≡ vs)) ⊎ (All (λ w. g < w .freq) vs × (ws ≡ row q g empty ∷ vs))
+
+pub record Opens (b sp : List ℕ) (s : Buckets) (at g : ℕ) (b' sp' : List ℕ) (m : Made) : Type 0 where
+  pub number-in : InTable b' (m .number)
+  pub size : length b' ≡ length b
+  pub spares-size : length sp' ≡ length sp
+  pub owners : owner b' ≡ owner b
+  pub rows : (us vs : List Row) → at ≡ final NONE (nums us) → length (nums (us ++ vs)) < length sp
+      → 1 ≤ g → g ≤ CEILING → All (λ w. w .freq < g) us → All (λ w. g ≤ w .freq) vs
+      → Holds b sp s (us ++ vs) → (ws : List Row) × Opened (m .number) g vs ws × Holds b' sp' (m .state) (us ++ ws)
 
 pub record Dropping (b sp : List ℕ) (r : ℕ) : Type 0 where
   pub size : length b ≡ length sp * WORDS
@@ -90,6 +109,10 @@ pub record Resets (sp sp' : List ℕ) (s : Buckets) : Type 0 where
   pub rows : (b : List ℕ) → length b ≡ length sp * WORDS → Holds b sp' s []
 
 -- ---- the search
+
+-- n is a record, of frequency f
+abbrev pub HasLevel : List ℕ → ℕ → ℕ → Type 0
+HasLevel b n f = (n ≢ NONE) × (frequency b n ≡ f)
 
 -- r is the last record below frequency f
 pub record Places (b : List ℕ) (s : Buckets) (f r : ℕ) : Type 0 where

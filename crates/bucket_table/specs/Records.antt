@@ -66,6 +66,10 @@ pub record Row : Type 0 where
 abbrev pub row : ℕ → ℕ → Ends → Row
 row r f e = record { num = r; freq = f; ends = e }
 
+-- what the table says of record r
+abbrev pub rowOf : List ℕ → ℕ → Row
+rowOf b r = row r (frequency b r) (record { head = head b r; tail = tail b r })
+
 -- the ends of an empty list
 abbrev pub empty : Ends
 empty = record { head = NONE; tail = NONE }

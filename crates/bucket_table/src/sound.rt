@@ -1,11 +1,13 @@
 // The calls on records that are known to be sound: they check nothing, and all but `place` and `reset` take a few steps.
 ghost use mathlib.Core.Path.{_≡_};
+ghost use mathlib.Core.Bool.{true};
+ghost use mathlib.Core.Logic.{_↔_};
 ghost use mathlib.Core.List.{List};
 ghost use Prim.Native.Nat.{ℕ, _<_, _≤_};
 ghost use lib.ListN.{length};
 ghost use Rattle.numbers.specs.Marks.{LIMIT};
 ghost use Rattle.bucket_table.specs.Records.{WORDS, word, frequency, head, tail, owner, lower, up, InTable, Spot, Sound};
-ghost use Rattle.bucket_table.specs.Calls.{Stored, Linked, Filled, SetEnds, SetOwner, Raises, Making, Makes, Dropping, Drops, Places, Resets};
+ghost use Rattle.bucket_table.specs.Calls.{Stored, Linked, Filled, SetEnds, SetOwner, HasLevel, Raises, Making, Makes, Opening, Opens, Dropping, Drops, Places, Resets};
 use crate::Buckets;
 use crate::Made;
 use crate::WORDS;
@@ -104,6 +106,17 @@ pub fn above(buckets: &[u64], state: Buckets, number: u64) -> u64
     word(buckets, number, HIGHER)
 }
 
+// Whether this is a record, and of this frequency.
+pub fn is_level(buckets: &[u64], number: u64, frequency: Frequency) -> bool
+    requires { ⌜ Spot (now buckets) number ⌝ }
+    ensures { λ r. ⌜ (r ≡ true) ↔ HasLevel (now (buckets .entry)) number (frequency .0) ⌝ }
+{
+    if number == NONE {
+        return false;
+    }
+    word(buckets, number, FREQUENCY) == frequency.0
+}
+
 // Gives a record's list other ends.
 pub fn set_ends(buckets: &mut [u64], number: u64, ends: links::Ends)
     requires { ⌜ InTable (now buckets) number ⌝ }
@@ -168,6 +181,27 @@ pub fn make(
         number: number,
         state: after,
     }
+}
+
+// The record of a frequency above the record `at`, which is made if it is not there.
+pub fn ensure(
+    buckets: &mut [u64],
+    spares: &mut [u64],
+    state: Buckets,
+    at: u64,
+    frequency: Frequency,
+) -> Made
+    requires { ⌜ Opening (now buckets) (now spares) state at ⌝ }
+    ensures { λ r. ⌜ Opens (now (buckets .entry)) (now (spares .entry)) state at (frequency .0) (now (buckets .exit)) (now (spares .exit)) r ⌝ }
+{
+    let number = above(&buckets[..], state, at);
+    if is_level(&buckets[..], number, frequency) {
+        return Made {
+            number: number,
+            state: state,
+        };
+    }
+    make(buckets, spares, state, at, frequency)
 }
 
 // Takes a record out: its neighbours are linked, and it is spare.

@@ -1,7 +1,8 @@
--- Laws of `map`: what holds of all images, and how many they are. Each is a plain induction on the list.
-use mathlib.Core.Path.{_≡_, refl, ap}
-use mathlib.Core.List.{List, [], _∷_, map}
+-- Laws of `map`: what holds of all images, how many they are, and what maps to a list in two parts. Each is a plain induction on the list.
+use mathlib.Core.Path.{_≡_, refl, ap, _∙_}
+use mathlib.Core.List.{List, [], _∷_, _++_, map}
 use Prim.Native.Nat.{ℕ, suc}
+use native.Mathlib.Omega.{arith}
 use lib.ListN.{length}
 use Rattle.lists.specs.Lists.{All}
 
@@ -17,3 +18,17 @@ module _ {A B : Type 0} (f : A → B) where
   pub length-images : (xs : List A) → length (map f xs) ≡ length xs
   length-images [] = refl
   length-images (x ∷ xs) = ap suc (length-images xs)
+
+  -- a list that maps to a first element and others
+  pub map-cons : (xs : List A) (v : B) (vs : List B) → map f xs ≡ v ∷ vs → (a : A) × (ps : List A) × (xs ≡ a ∷ ps) × (f a ≡ v) × (map f ps ≡ vs)
+  map-cons [] v vs e = let z : _≡_ {A = ℕ} 0 1 = cc in absurd (omega arith)
+  map-cons (x ∷ xs) v vs e = (x, xs, refl, cc, cc)
+
+  -- a list that maps to a list in two parts
+  pub map-parts : (xs : List A) (us vs : List B) → map f xs ≡ us ++ vs → (ps : List A) × (qs : List A) × (xs ≡ ps ++ qs) × (map f ps ≡ us) × (map f qs ≡ vs)
+  map-parts xs [] vs e = ([], xs, refl, refl, e)
+  map-parts [] (u ∷ us) vs e = let z : _≡_ {A = ℕ} 0 1 = cc in absurd (omega arith)
+  map-parts (x ∷ xs) (u ∷ us) vs e =
+      let q = map-parts xs us vs (cc) in
+      let h : f x ≡ u = cc in
+      (x ∷ q .0, q .1, ap (λ (l : List A). x ∷ l) (q .2), λ i. h i ∷ q .3 i, q .4)

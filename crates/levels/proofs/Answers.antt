@@ -1,0 +1,157 @@
+-- What the tests of the calls say of the levels.
+use mathlib.Core.Path.{_≡_, refl, sym, ap, _∙_, subst}
+use mathlib.Core.Bool.{Bool, true, false}
+use mathlib.Core.Logic.{_≢_, _↔_}
+use mathlib.Core.List.{List, [], _∷_, _++_}
+use Prim.Native.Nat.{ℕ, _+_, _<_, _≤_}
+use native.Mathlib.Omega.{arith}
+use lib.ListN.{length, getD}
+use lib.Dec.{eqb}
+use borrow.Author.Tests.{eq-eqb, eqb-true}
+use Rattle.lists.proofs.Tests.{neither, said-no}
+use Rattle.numbers.specs.Marks.{NONE}
+use Rattle.lists.specs.Lists.{All, final}
+use Rattle.lists.proofs.Members.{all-map}
+use Rattle.lists.proofs.Tests.{if-same, if-other}
+use Rattle.links.specs.Lent.{lent, Ring}
+use Rattle.links.specs.declared.Ends.{Ends}
+use Rattle.links.proofs.Functions.{look-end}
+use Rattle.links.proofs.Lists.{ring-tail}
+use Rattle.bucket_table.specs.declared.Buckets.{Buckets}
+use Rattle.bucket_table.specs.Records.{row, nums, frequency, higher, head, tail, up, InTable, Spot, Holds}
+use Rattle.bucket_table.specs.Calls.{HasLevel, Places}
+use Rattle.bucket_table.proofs.Rows.{rising-around, at-spot, above-spot, above-none, above-row, row-some}
+use Rattle.levels.specs.Levels.{Level, first, lowest, lowestFrequency, headOf}
+use Rattle.levels.specs.Held.{Tabs, tabs, Line, line, rows, view, Lines, Held}
+use Rattle.levels.specs.Calls.{InPlace, SoundWith, Lowest, LowestFrequency, Heads}
+use Rattle.levels.proofs.Lines.{rows-append, view-all, all-view, all-rows, lines-room, records-mid, line-in, number-in, written}
+use Rattle.levels.proofs.Calls.{part}
+
+pub no-answer : {A : Type 0} → false ≡ true → A
+no-answer q = absurd (neither false q refl)
+
+pub in-place : (b : List ℕ) (s : Buckets) (r g : ℕ) (e : Ends) (n : ℕ) (t : Bool) → (e .head ≡ head b r) × (e .tail ≡ tail b r) → e .head ≡ e .tail → n ≡ up b s r → (t ≡ true) ↔ HasLevel b n g → t ≡ false
+    → InPlace b s r g
+in-place b s r g e n t read q en l nay = record { lone = sym (read .0) ∙ q ∙ read .1; gap = λ h. said-no (HasLevel b n g) l nay (rw en h) }
+
+pub free-test : (n : List ℕ) (x : ℕ) → x < length n → (eqb (getD n x 0) x ≡ true) ↔ ((x < length n) × (getD n x 0 ≡ x))
+free-test n x l = (λ q. (l, eqb-true (getD n x 0) x q), λ h. eq-eqb (getD n x 0) x (h .1))
+
+-- ---- the ends of a line
+
+module _ (t : Tabs) (s : Buckets) (us : List Line) (l : Line) (vs : List Line) (h : Lines t s (us ++ l ∷ vs)) where
+  pub head-is : head (t .buckets) (l .row .num) ≡ first (l .slots)
+  head-is = written t s us l vs h .head-is ∙ go (l .slots) (line-in t s us l vs h .ring)
+    where
+      go : (xs : List ℕ) → Ring (lent (t .prevs) (t .nexts) (l .row .ends)) xs → l .row .ends .head ≡ first xs
+      go [] r = sym (look-end (λ k. getD (t .nexts) k 0) (l .row .ends .head)) ∙ r .links .0
+      go (x ∷ xs) r = sym (look-end (λ k. getD (t .nexts) k 0) (l .row .ends .head)) ∙ r .links .0
+
+  pub tail-is : tail (t .buckets) (l .row .num) ≡ final NONE (l .slots)
+  tail-is = written t s us l vs h .tail-is ∙ ring-tail (lent (t .prevs) (t .nexts) (l .row .ends)) (lines-room t s (us ++ l ∷ vs) h) (l .slots) (line-in t s us l vs h .ring)
+
+-- ---- `lowest` and `lowest_frequency`
+
+module _ (t : Tabs) (s : Buckets) where
+  bottom-none : Lines t s [] → s .bottom ≡ NONE
+  bottom-none h = sym (look-end (higher (t .buckets)) (s .bottom)) ∙ above-none (t .buckets) (t .spares) s [] (h .records)
+
+  bottom-row : (l : Line) (ls : List Line) → Lines t s (l ∷ ls) → s .bottom ≡ l .row .num
+  bottom-row l ls h = sym (look-end (higher (t .buckets)) (s .bottom)) ∙ above-row (t .buckets) (t .spares) s [] (l .row) (rows ls) (h .records)
+
+  -- what is read of the lowest record answers for the levels
+  bottom-answer : (B : List Level → ℕ) (v : ℕ) → ((l : Line) (ls : List Line) → Lines t s (l ∷ ls) → s .bottom ≡ l .row .num → v ≡ B (view (l ∷ ls))) → s .bottom ≢ NONE → (ls : List Level) → Held t s ls → v ≡ B ls
+  bottom-answer B v f ne ls h = go (h .lines) (h .rep) ∙ ap B (h .seen)
+    where
+      go : (ks : List Line) → Lines t s ks → v ≡ B (view ks)
+      go [] k = absurd (ne (bottom-none k))
+      go (l ∷ ks) k = f l ks k (bottom-row l ks k)
+
+  none-answer : (B : List Level → ℕ) (v : ℕ) → v ≡ B [] → s .bottom ≡ NONE → (ls : List Level) → Held t s ls → v ≡ B ls
+  none-answer B v e q ls h = go (h .lines) (h .rep) ∙ ap B (h .seen)
+    where
+      go : (ks : List Line) → Lines t s ks → v ≡ B (view ks)
+      go [] k = e
+      go (l ∷ ks) k = absurd (row-some (t .buckets) (t .spares) s [] (l .row) (rows ks) (k .records) (sym (bottom-row l ks k) ∙ q))
+
+  pub bottom-in : (ls : List Level) → Held t s ls → s .bottom ≢ NONE → InTable (t .buckets) (s .bottom)
+  bottom-in ls h ne = go (h .lines) (h .rep)
+    where
+      go : (ks : List Line) → Lines t s ks → InTable (t .buckets) (s .bottom)
+      go [] k = absurd (ne (bottom-none k))
+      go (l ∷ ks) k = rw (bottom-row l ks k) (number-in t s [] l ks k)
+
+module _ (b : List ℕ) (s : Buckets) where
+  pub low-none : s .bottom ≡ NONE → Lowest b s NONE
+  low-none e = record { answer = λ f p n sp. none-answer (tabs f p n b sp) s lowest NONE refl e }
+
+  pub low-tail : (v : ℕ) → s .bottom ≢ NONE → v ≡ tail b (s .bottom) → Lowest b s v
+  low-tail v ne e = record {
+    answer = λ f p n sp. bottom-answer (tabs f p n b sp) s lowest v (λ l ls h q. e ∙ ap (tail b) q ∙ tail-is (tabs f p n b sp) s [] l ls h) ne;
+  }
+
+  pub low-no-frequency : s .bottom ≡ NONE → LowestFrequency b s 0
+  low-no-frequency e = record { answer = λ f p n sp. none-answer (tabs f p n b sp) s lowestFrequency 0 refl e }
+
+  pub low-frequency : (v : ℕ) → s .bottom ≢ NONE → v ≡ frequency b (s .bottom) → LowestFrequency b s v
+  low-frequency v ne e = record {
+    answer = λ f p n sp. bottom-answer (tabs f p n b sp) s lowestFrequency v (λ l ls h q. e ∙ ap (frequency b) q ∙ written (tabs f p n b sp) s [] l ls h .freq-is) ne;
+  }
+
+  pub low-in : SoundWith b s → s .bottom ≢ NONE → InTable b (s .bottom)
+  low-in k ne = bottom-in (tabs (k .0) (k .1) (k .2) b (k .3)) s (k .4 .0) (k .4 .1) ne
+
+-- ---- `head`
+
+head-skip : (g : ℕ) (us vs : List Level) → All (λ l. l .freq < g) us → headOf g (us ++ vs) ≡ headOf g vs
+head-skip g [] vs h = refl
+head-skip g (u ∷ us) vs h = let l = h .0 in if-other (u .freq) g (first (u .slots)) (headOf g (us ++ vs)) (omega arith) ∙ head-skip g us vs (h .1)
+
+head-none : (g : ℕ) (vs : List Level) → All (λ l. g < l .freq) vs → headOf g vs ≡ NONE
+head-none g [] h = refl
+head-none g (v ∷ vs) h = let l = h .0 in if-other (v .freq) g (first (v .slots)) (headOf g vs) (omega arith) ∙ head-none g vs (h .1)
+
+module _ (b : List ℕ) (s : Buckets) (g at n : ℕ) (pl : Places b s g at) (en : n ≡ up b s at) where
+  pub head-spots : SoundWith b s → Spot b at × Spot b n
+  head-spots k =
+      let t = tabs (k .0) (k .1) (k .2) b (k .3) in
+      let q = part t s g at pl (k .4 .0) (k .4 .1) .5 in
+      let h : Holds b (k .3) s (rows (q .lower) ++ rows (q .upper)) = rw (rows-append (q .lower) (q .upper)) at (q .rep .records) in
+      (rw (q .place) (at-spot b (k .3) s (rows (q .lower)) (rows (q .upper)) h), rw (en, q .place) (above-spot b (k .3) s (rows (q .lower)) (rows (q .upper)) h))
+
+  -- the first line from g on, if there is one, is that of record n
+  head-by : (t : Tabs) → t .buckets ≡ b → (v : ℕ) → (n ≡ NONE → v ≡ NONE)
+      → ((us : List Line) (l : Line) (vs : List Line) → Lines t s (us ++ l ∷ vs) → n ≡ l .row .num → g ≤ l .row .freq → v ≡ headOf g (view (l ∷ vs))) → (ls : List Level) → Held t s ls → v ≡ headOf g ls
+  head-by t eb v none some ls h =
+      let q = part t s g at (subst (λ (c : List ℕ). Places c s g at) (sym eb) pl) ls h in
+      let k = q .5 in
+      let en' : n ≡ up (t .buckets) s (final NONE (nums (rows (k .lower)))) = en ∙ ap (λ (c : List ℕ). up c s at) (sym eb) ∙ ap (up (t .buckets) s) (k .place) in
+      go (k .upper) (k .lower) (k .rep) (view-all (λ l. g ≤ l .freq) (k .upper) (q .1) (k .seen-upper) (q .4)) en' ∙ ap (headOf g) (k .seen-upper) ∙ sym (head-skip g (q .0) (q .1) (q .3)) ∙ ap (headOf g) (sym (q .2))
+    where
+      go : (vs us : List Line) → Lines t s (us ++ vs) → All (λ l. g ≤ l .row .freq) vs → n ≡ up (t .buckets) s (final NONE (nums (rows us))) → v ≡ headOf g (view vs)
+      go [] us k a e = none (e ∙ above-none (t .buckets) (t .spares) s (rows us) (rw (rows-append us []) at (k .records)))
+      go (l ∷ vs) us k a e = some us l vs k (e ∙ above-row (t .buckets) (t .spares) s (rows us) (l .row) (rows vs) (records-mid t s us l vs k)) (a .0)
+
+  pub heads-there : HasLevel b n g → (v : ℕ) → v ≡ head b n → Heads b s g v
+  heads-there lv v ev = record {
+    answer = λ f p n' sp.
+        head-by (tabs f p n' b sp) refl v (λ q. absurd (lv .0 q))
+        (λ us l vs h e le.
+        let w = written (tabs f p n' b sp) s us l vs h .freq-is in
+        ev ∙ ap (head b) e ∙ head-is (tabs f p n' b sp) s us l vs h
+        ∙ sym (if-same (l .row .freq) g (first (l .slots)) (headOf g (view vs)) (sym w ∙ ap (frequency b) (sym e) ∙ lv .1)));
+  }
+
+  pub heads-none : (HasLevel b n g → ⊥) → Heads b s g NONE
+  heads-none lv = record {
+    answer = λ f p n' sp.
+        let t = tabs f p n' b sp in
+        head-by t refl NONE (λ q. refl)
+        (λ us l vs h e le.
+        let w = written t s us l vs h .freq-is in
+        let hs = records-mid t s us l vs h in
+        let ne : l .row .freq ≢ g = λ q. lv ((λ z. row-some b sp s (rows us) (l .row) (rows vs) hs (sym e ∙ z)), ap (frequency b) e ∙ w ∙ q) in
+        let above = rising-around 0 (rows us) (l .row) (rows vs) (hs .rising) .3 in
+        let rest = all-map (λ v. l .row .freq < v .freq) (λ v. g < v .freq) (λ v q. omega arith) (rows vs) above in
+        sym (head-none g (view (l ∷ vs)) (omega arith, all-view (λ k. g < k .freq) vs (view vs) refl (all-rows (λ v. g < v .freq) vs rest))));
+  }

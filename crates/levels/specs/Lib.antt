@@ -1,0 +1,4 @@
+pub mod Levels
+pub mod Held
+pub mod Calls
+pub mod Check
