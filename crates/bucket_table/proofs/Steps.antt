@@ -17,7 +17,7 @@ use Rattle.slot_arena.specs.declared.Order.{Order}
 use Rattle.slot_arena.specs.declared.Taken.{Taken}
 use Rattle.slot_arena.proofs.Uses.{uses-take, uses-release, uses-filled}
 use Rattle.bucket_table.specs.declared.Buckets.{Buckets}
-use Rattle.bucket_table.specs.Records.{WORDS, word, frequency, lower, higher, head, tail, up, down, InTable, Spot, Row, row, empty, nums, Rising, Written, Holds}
+use Rattle.bucket_table.specs.Records.{WORDS, word, frequency, lower, higher, head, tail, up, down, Spot, Row, row, empty, nums, Rising, Written, Holds}
 use Rattle.bucket_table.specs.Calls as calls
 use Rattle.bucket_table.specs.Calls.{Stored, Linked, SetEnds, SetOwner, Raises, Making, Makes, Drops, Resets}
 use Rattle.bucket_table.proofs.Rows.{nums-append, all-nums, rising-around, rising-out, rising-in, clear, spots, ring-parts, above-spot, row-some, row-once, rows-others, row-written, others-written}
@@ -197,10 +197,6 @@ module _ (b sp : List ℕ) (s : Buckets) (at₀ g : ℕ) (pre : Making b sp s at
     owners = rest 5 (omega arith) ∙ fl .owners;
     rows = λ us vs ea few one c hu hv h. made-rows us vs ea few h (rising-in 0 us (row q g empty) vs (omega arith) c hu hv (h .rising));
   }
-
--- the new record is in the table
-pub fill-fits : (b sp : List ℕ) (s : Buckets) (at₀ : ℕ) → Making b sp s at₀ → (sp' : List ℕ) (t : Taken) → Takes sp (s .spare) sp' t → InTable b (t .slot .0)
-fill-fits b sp s at₀ pre sp' t tk = let e = tk .slot in let l = pre .room in let z = pre .size in omega arith
 
 -- ---- `remove`
 

@@ -19,14 +19,14 @@ use Rattle.links.proofs.Lists.{ring-distinct, ring-tail}
 use Rattle.bucket_table.specs.declared.Buckets.{Buckets}
 use Rattle.bucket_table.specs.Records.{Row, row, nums, frequency, owner, up, Spot, Rising, Holds}
 use Rattle.bucket_table.specs.Calls.{Places}
-use Rattle.bucket_table.proofs.Rows.{rising-around, rising-above, next-row, row-in, row-some, row-written, above-spot}
+use Rattle.bucket_table.proofs.Rows.{nums-append, rising-around, rising-above, next-row, row-in, row-some, row-written, above-spot}
 use Rattle.levels.specs.declared.Left.{Left}
 use Rattle.levels.specs.Levels.{Level, level, Nowhere, keep, join, touched}
 use Rattle.levels.specs.Held.{Tabs, tabs, Line, line, rows, view, Lines, Some, Held, Parted}
 use Rattle.levels.specs.Calls.{Fronts, InPlace, Lifts, Bound, Leaves, Ready, Enters, Touches, Binding, Binds, Unbinds}
 use Rattle.levels.proofs.Lines.{rows-append, view-append, view-all, all-view, rows-all, all-rows, lines-room, records-mid, line-in, written, split-held, split-at}
 use Rattle.levels.proofs.One.{free-nowhere}
-use Rattle.levels.proofs.Moves.{bound-split, bound-fits, bound-records}
+use Rattle.levels.proofs.Leave.{bound-split, bound-fits, bound-records}
 
 -- ---- the order of the levels
 
@@ -177,7 +177,7 @@ bound-spots t s x b r er =
     let h = bound-records t s x b r er in
     let w : Row = row r (b .freq) (k .ends) in
     let h' : Holds (t .buckets) (t .spares) s ((rows (k .lower) ++ w ∷ []) ++ rows (k .upper)) = rw append-assoc h in
-    let e : r ≡ final NONE (nums (rows (k .lower) ++ w ∷ [])) = sym (ap (final NONE) (Rattle.bucket_table.proofs.Rows.nums-append (rows (k .lower)) (w ∷ [])) ∙ final-append NONE (nums (rows (k .lower))) (r ∷ [])) in
+    let e : r ≡ final NONE (nums (rows (k .lower) ++ w ∷ [])) = sym (ap (final NONE) (nums-append (rows (k .lower)) (w ∷ [])) ∙ final-append NONE (nums (rows (k .lower))) (r ∷ [])) in
     (inl (row-in (t .buckets) (t .spares) s (rows (k .lower)) w (rows (k .upper)) h), rw e (above-spot (t .buckets) (t .spares) s (rows (k .lower) ++ w ∷ []) (rows (k .upper)) h'))
 
 -- ---- `unbind`

@@ -1,7 +1,8 @@
 pub mod Lines
 pub mod One
 pub mod Steps
-pub mod Moves
+pub mod Leave
+pub mod Enter
 pub mod Calls
 pub mod Answers
 pub mod Walks

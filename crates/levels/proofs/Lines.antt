@@ -18,7 +18,7 @@ use Rattle.links.proofs.Pigeonhole.{pigeon}
 use Rattle.bucket_table.specs.declared.Buckets.{Buckets}
 use Rattle.bucket_table.specs.Records.{Row, row, nums, owner, InTable, Written, Holds}
 use Rattle.bucket_table.proofs.Rows.{rows-others, row-in, row-written, nums-distinct}
-use Rattle.levels.specs.Levels.{Level, level, members}
+use Rattle.levels.specs.Levels.{Level, level, members, Nowhere}
 use Rattle.levels.specs.Held.{Tabs, Line, line, rows, view, Missing, LineHeld, Free, Even, Lines, Some, Held}
 
 -- ---- lists of lines
@@ -221,14 +221,20 @@ many-slots : (ls : List Line) → All Some ls → length ls ≤ length (members 
 many-slots [] h = omega arith
 many-slots (l ∷ ls) h = let a = h .0 in omega (arith, many-slots ls (h .1), length-append (l .slots) (members (view ls)))
 
+-- being in no level, and being none of the members
+pub nowhere-members : (x : ℕ) (ls : List Level) → Nowhere x ls → Without x (members ls)
+nowhere-members x [] h = tt
+nowhere-members x (l ∷ ls) h = all-append (λ y. y ≢ x) (l .slots) (members ls) (h .0) (nowhere-members x ls (h .1))
+
+pub members-nowhere : (x : ℕ) (ls : List Level) → Without x (members ls) → Nowhere x ls
+members-nowhere x [] h = tt
+members-nowhere x (l ∷ ls) h = (all-left (λ y. y ≢ x) (l .slots) (members ls) h, members-nowhere x ls (all-right (λ y. y ≢ x) (l .slots) (members ls) h))
+
 pub missing-members : (x : ℕ) (ls : List Line) → Missing x ls → Without x (members (view ls))
-missing-members x [] h = tt
-missing-members x (l ∷ ls) h = all-append (λ y. y ≢ x) (l .slots) (members (view ls)) (h .0) (missing-members x ls (h .1))
+missing-members x ls h = nowhere-members x (view ls) (all-view (λ l. Without x (l .slots)) ls (view ls) refl h)
 
 pub members-missing : (x : ℕ) (ls : List Line) → Without x (members (view ls)) → Missing x ls
-members-missing x [] h = tt
-members-missing x (l ∷ ls) h =
-    (all-left (λ y. y ≢ x) (l .slots) (members (view ls)) h, members-missing x ls (all-right (λ y. y ≢ x) (l .slots) (members (view ls)) h))
+members-missing x ls h = view-all (λ l. Without x (l .slots)) ls (view ls) refl (members-nowhere x (view ls) h)
 
 module _ (t : Tabs) (s : Buckets) (ls : List Line) (h : Lines t s ls) where
   pub lines-distinct : Distinct (members (view ls))

@@ -1,24 +1,29 @@
--- What the tables say of the levels that they hold: at most one list of levels is held, its slots are distinct, the cells of a slot say its
--- neighbours, and the slots of no level are those whose next slot is their own number.
+-- What is known of the levels that the tables hold, for the layers above: at most one list of levels is held, it is in order, its slots are
+-- distinct, the cells of a slot say its frequency and the slot after it, and the slots of no level are those whose next slot is their own number.
 use mathlib.Core.Path.{_≡_, refl, sym, ap, _∙_, subst}
-use mathlib.Core.Logic.{_≢_, _↔_}
+use mathlib.Core.Logic.{_≢_, _↔_, ⊎-elim}
 use mathlib.Core.List.{List, [], _∷_, _++_}
 use Prim.Native.Nat.{ℕ, _<_, _≤_}
 use native.Mathlib.Omega.{arith}
 use lib.ListN.{length, getD}
 use Rattle.numbers.specs.Marks.{NONE}
-use Rattle.lists.specs.Lists.{All, Without, Distinct}
-use Rattle.lists.proofs.Members.{all-map, all-right, all-of, in-split}
+use Rattle.lists.specs.Lists.{All, In, Without, Distinct, times}
+use Rattle.lists.proofs.Tests.{by-eq}
+use Rattle.lists.proofs.Members.{times-in, times-without, in-either, all-map, all-right, all-of, in-split}
+use Rattle.links.specs.Ring.{Links}
+use Rattle.links.specs.declared.Ends.{Ends}
 use Rattle.links.specs.Lent.{lent, next, prev, Ring}
 use Rattle.links.proofs.Functions.{look-at}
 use Rattle.links.proofs.Rings.{past}
 use Rattle.links.proofs.Lists.{ring-one, ring-once, ring-slot}
 use Rattle.bucket_table.specs.declared.Buckets.{Buckets}
-use Rattle.bucket_table.specs.Records.{Row}
+use Rattle.bucket_table.specs.Records.{Row, row}
+use Rattle.bucket_table.specs.Records as records
 use Rattle.bucket_table.proofs.One.{holds-one}
-use Rattle.levels.specs.Levels.{Level, level, members, Nowhere, first}
-use Rattle.levels.specs.Held.{Tabs, Line, line, rows, view, Missing, Lines, Held}
-use Rattle.levels.proofs.Lines.{view-all, all-view, LineIn, lines-room, line-in, split-held, lines-distinct, lines-below}
+use Rattle.levels.specs.Levels.{Level, level, members, Nowhere, Rising, first}
+use Rattle.levels.specs.Held.{Tabs, Line, line, rows, view, Missing, Lines, Some, Held}
+use Rattle.levels.specs.Calls.{Bound}
+use Rattle.levels.proofs.Lines.{view-all, all-view, LineIn, lines-room, line-in, split-held, member-own, members-nowhere, lines-distinct, lines-below}
 
 -- ---- one reading
 
@@ -48,20 +53,43 @@ module _ (t : Tabs) (s : Buckets) (ls : List Level) (h : Held t s ls) where
   pub held-below : All (λ x. x < length (t .freqs)) (members ls)
   held-below = subst (λ (k : List Level). All (λ x. x < length (t .freqs)) (members k)) (h .seen) (lines-below t s (h .lines) (h .rep))
 
+  -- the frequencies rise, and no level is empty
+  pub held-rising : Rising 0 ls
+  held-rising = subst (Rising 0) (h .seen) (go 0 (h .lines) (h .rep .records .rising) (h .some))
+    where
+      go : (f : ℕ) (ks : List Line) → records.Rising f (rows ks) → All Some ks → Rising f (view ks)
+      go f [] r a = tt
+      go f (k ∷ ks) r a = (r .0, r .1, a .0, go (k .row .freq) ks (r .2) (a .1))
+
+-- where a member stands
+pub member-at : (x : ℕ) (ls : List Level) → In x (members ls) → (us : List Level) × (f : ℕ) × (xs : List ℕ) × (ys : List ℕ) × (vs : List Level) × (ls ≡ us ++ level f (xs ++ x ∷ ys) ∷ vs)
+member-at x (l ∷ ls) i =
+    ⊎-elim (λ j. let k = in-split x (l .slots) j in ([], l .freq, k .before, k .after, ls, λ i. level (l .freq) (k .is i) ∷ ls))
+    (λ j. let r = member-at x ls j in (l ∷ r .0, r .1, r .2, r .3, r .4, ap (λ (k : List Level). l ∷ k) (r .5))) (in-either x (l .slots) (members ls) i)
+
+pub bound-of : (t : Tabs) (s : Buckets) (ls : List Level) → Held t s ls → (x : ℕ) → In x (members ls) → Bound t s x
+bound-of t s ls h x i = let r = member-at x ls i in record { us = r .0; freq = r .1; xs = r .2; ys = r .3; vs = r .4; held = subst (Held t s) (r .5) h }
+
+-- a member is a slot of the tables, and has the level's frequency
+pub held-own : (t : Tabs) (s : Buckets) (us : List Level) (f : ℕ) (xs : List ℕ) (x : ℕ) (ys : List ℕ) (vs : List Level) → Held t s (us ++ level f (xs ++ x ∷ ys) ∷ vs)
+    → (x < length (t .freqs)) × (getD (t .freqs) x 0 ≡ f)
+held-own t s us f xs x ys vs h =
+    let k = split-held t s us f (xs ++ x ∷ ys) vs h in let m = member-own t s us f xs x ys vs (k .0) (k .1) in (m .0, m .1)
+
 -- ---- the slot after one
 
 -- a slot's next one is the head of what follows it
-ring-next : (p n : List ℕ) (e : Rattle.links.specs.declared.Ends.Ends) → length p ≤ NONE → (us : List ℕ) (x : ℕ) (vs : List ℕ) → Ring (lent p n e) (us ++ x ∷ vs) → getD n x 0 ≡ first vs
+ring-next : (p n : List ℕ) (e : Ends) → length p ≤ NONE → (us : List ℕ) (x : ℕ) (vs : List ℕ) → Ring (lent p n e) (us ++ x ∷ vs) → getD n x 0 ≡ first vs
 ring-next p n e room us x vs h =
     let l = ring-slot (lent p n e) room us x vs h in
     sym (look-at (λ k. getD n k 0) (e .head) x (omega arith)) ∙ go vs (past (next (lent p n e)) (prev (lent p n e)) NONE us (x ∷ vs) NONE (h .links) .2)
   where
-    go : (vs : List ℕ) → Rattle.links.specs.Ring.Links (next (lent p n e)) (prev (lent p n e)) x vs NONE → next (lent p n e) x ≡ first vs
+    go : (vs : List ℕ) → Links (next (lent p n e)) (prev (lent p n e)) x vs NONE → next (lent p n e) x ≡ first vs
     go [] l = l .0
     go (v ∷ vs) l = l .0
 
 -- and so is never the slot itself
-next-other : (p n : List ℕ) (e : Rattle.links.specs.declared.Ends.Ends) → length p ≤ NONE → (us : List ℕ) (x : ℕ) (vs : List ℕ) → Ring (lent p n e) (us ++ x ∷ vs) → getD n x 0 ≢ x
+next-other : (p n : List ℕ) (e : Ends) → length p ≤ NONE → (us : List ℕ) (x : ℕ) (vs : List ℕ) → Ring (lent p n e) (us ++ x ∷ vs) → getD n x 0 ≢ x
 next-other p n e room us x vs h q = go vs (ring-next p n e room us x vs h) (ring-once (lent p n e) room us x vs h)
   where
     go : (vs : List ℕ) → getD n x 0 ≡ first vs → Without x (us ++ vs) → ⊥
@@ -72,7 +100,7 @@ pub held-next : (t : Tabs) (s : Buckets) (us : List Level) (f : ℕ) (xs : List 
 held-next t s us f xs x ys vs h =
     let q = split-held t s us f (xs ++ x ∷ ys) vs h in
     let k = q .1 in
-    let l : Line = line (Rattle.bucket_table.specs.Records.row (q .0) f (k .ends)) (xs ++ x ∷ ys) in
+    let l : Line = line (row (q .0) f (k .ends)) (xs ++ x ∷ ys) in
     ring-next (t .prevs) (t .nexts) (k .ends) (lines-room t s (k .lower ++ l ∷ k .upper) (k .rep)) xs x ys (line-in t s (k .lower) l (k .upper) (k .rep) .ring)
 
 -- ---- the free slots
@@ -94,3 +122,10 @@ free-exact t s ls h x l = (
   free-nowhere t s ls h x,
   λ w. h .rep .free x l (view-all (λ k. Without x (k .slots)) (h .lines) ls (h .seen) w) .next-own,
 )
+
+-- so a slot that is not marked free is in a level
+pub taken-bound : (t : Tabs) (s : Buckets) (ls : List Level) → Held t s ls → (x : ℕ) → x < length (t .freqs) → getD (t .nexts) x 0 ≢ x → Bound t s x
+taken-bound t s ls h x l ne =
+    by-eq (times x (members ls)) 0
+    (λ e. absurd (ne (free-exact t s ls h x l .1 (members-nowhere x ls (times-without x (members ls) e)))))
+    (λ d. bound-of t s ls h x (times-in x (members ls) (omega arith)))

@@ -12,7 +12,7 @@ use borrow.Author.Tests.{eq-eqb, eqb-true}
 use Rattle.numbers.specs.Marks.{NONE}
 use Rattle.lists.specs.Lists.{All, final}
 use Rattle.lists.proofs.Tests.{neither}
-use Rattle.lists.proofs.Members.{all-map, all-mid, all-append, final-in}
+use Rattle.lists.proofs.Members.{all-map, all-both, all-mid, all-append, final-in}
 use Rattle.links.specs.Lent.{Lent, lent, next, prev}
 use Rattle.links.proofs.Functions.{look-end, look-at}
 use Rattle.links.proofs.Lists.{ring-clear}
@@ -62,7 +62,7 @@ module _ (f p n b : List ℕ) (r : ℕ) where
 
     fine-of : (xs : List ℕ) → Listed f p n b r xs → All Fine xs
     fine-of xs h =
-        Rattle.lists.proofs.Members.all-both (λ y. y < length p) (λ y. (getD f y 0 ≡ frequency b r) × (owner b y ≡ r)) Fine (λ y l o. (l, o .0, o .1)) xs (h .held .ring .slots) (h .held .own)
+        all-both (λ y. y < length p) (λ y. (getD f y 0 ≡ frequency b r) × (owner b y ≡ r)) Fine (λ y l o. (l, o .0, o .1)) xs (h .held .ring .slots) (h .held .own)
 
     -- what comes next in a list that there may be
     next-ok : x ≢ NONE → (xs : List ℕ) → Listed f p n b r xs → SlotOk f p b r (frequency b r) at x × (length (w .passed) + 1 ≤ length xs)

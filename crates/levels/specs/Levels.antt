@@ -1,9 +1,11 @@
 -- The levels as a list, from the lowest frequency up, and what each call does to them.
 use mathlib.Core.Bool.{cond}
 use mathlib.Core.List.{List, [], _∷_, _++_}
-use Prim.Native.Nat.{ℕ, _+_}
+use Prim.Native.Nat.{ℕ, _+_, _<_, _≤_}
+use lib.ListN.{length}
 use lib.Dec.{eqb, ltb}
 use Rattle.numbers.specs.Marks.{NONE}
+use Rattle.numbers.specs.Frequency.{CEILING}
 use Rattle.lists.specs.Lists.{All, Without, final}
 
 -- a frequency, and the slots that have it, head first
@@ -22,6 +24,11 @@ members (l ∷ ls) = l .slots ++ members ls
 -- x is in no level
 abbrev pub Nowhere : ℕ → List Level → Type 0
 Nowhere x ls = All (λ l. Without x (l .slots)) ls
+
+-- the frequencies rise from above f on to at most the ceiling, and no level is empty
+abbrev pub Rising : ℕ → List Level → Type 0
+Rising f [] = Unit {0}
+Rising f (l ∷ ls) = (f < l .freq) × (l .freq ≤ CEILING) × (0 < length (l .slots)) × Rising (l .freq) ls
 
 -- the level f in front, unless it has no slot
 abbrev pub keep : ℕ → List ℕ → List Level → List Level

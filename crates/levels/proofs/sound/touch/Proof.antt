@@ -1,6 +1,6 @@
 -- At the cap the slot moves inside its list; alone it takes its record along; else it leaves and enters.
 use Rattle.levels.proofs.Calls as laws
-use Rattle.levels.proofs.Moves as moves
+use Rattle.levels.proofs.Leave as leave
 use native.Mathlib.Omega.{arith}
 use mathlib.Core.Path.{refl}
 use borrow.Author.Needs.{needs}
@@ -8,13 +8,13 @@ use Rattle.levels.proofs.sound.touch.Statement.{statement}
 use Rattle.levels.proofs.sound.touch.Tie as tie
 
 owner-requires : tie.Need-owner-requires
-owner-requires c κs = moves.bound-slot-in _ _ _ (c .before .before .before .before .before .before .pre)
+owner-requires c κs = leave.bound-slot-in _ _ _ (c .before .before .before .before .before .before .pre)
 
 frequency-requires : tie.Need-frequency-requires
-frequency-requires c κs = moves.bound-record-in _ _ _ (c .before .before .before .before .before .before .before .before .pre) _ (c .before .owner .ensures)
+frequency-requires c κs = leave.bound-record-in _ _ _ (c .before .before .before .before .before .before .before .before .pre) _ (c .before .owner .ensures)
 
 front-requires : tie.Need-front-requires
-front-requires c κs = (moves.bound-fits _ _ _ (c .before .before .before .before .before .before .before .before .before .before .before .before .before .before .before .pre) .0, moves.bound-record-in _ _ _ (c .before .before .before .before .before .before .before .before .before .before .before .before .before .before .before .pre) _ (c .before .before .before .before .before .before .before .before .owner .ensures))
+front-requires c κs = (leave.bound-fits _ _ _ (c .before .before .before .before .before .before .before .before .before .before .before .before .before .before .before .pre) .0, leave.bound-record-in _ _ _ (c .before .before .before .before .before .before .before .before .before .before .before .before .before .before .before .pre) _ (c .before .before .before .before .before .before .before .before .owner .ensures))
 
 same-length : tie.Need-same-length
 same-length c = search needs
@@ -32,10 +32,10 @@ add-t26 : tie.Need-add-t26
 add-t26 c = search needs
 
 in-place-requires : tie.Need-in-place-requires
-in-place-requires c κs = let q = laws.bound-spots _ _ _ (c .before .before .before .before .before .before .before .before .before .before .before .before .before .before .pre) _ (c .before .before .before .before .before .before .before .owner .ensures) in (moves.bound-record-in _ _ _ (c .before .before .before .before .before .before .before .before .before .before .before .before .before .before .pre) _ (c .before .before .before .before .before .before .before .owner .ensures), q .0, q .1)
+in-place-requires c κs = let q = laws.bound-spots _ _ _ (c .before .before .before .before .before .before .before .before .before .before .before .before .before .before .pre) _ (c .before .before .before .before .before .before .before .owner .ensures) in (leave.bound-record-in _ _ _ (c .before .before .before .before .before .before .before .before .before .before .before .before .before .before .pre) _ (c .before .before .before .before .before .before .before .owner .ensures), q .0, q .1)
 
 lift-requires : tie.Need-lift-requires
-lift-requires c κs = (moves.bound-record-in _ _ _ (c .before .before .before .before .before .before .before .before .before .before .before .before .before .before .before .before .before .before .pre) _ (c .before .before .before .before .before .before .before .before .before .before .before .owner .ensures), moves.bound-fits _ _ _ (c .before .before .before .before .before .before .before .before .before .before .before .before .before .before .before .before .before .before .pre) .1)
+lift-requires c κs = (leave.bound-record-in _ _ _ (c .before .before .before .before .before .before .before .before .before .before .before .before .before .before .before .before .before .before .pre) _ (c .before .before .before .before .before .before .before .before .before .before .before .owner .ensures), leave.bound-fits _ _ _ (c .before .before .before .before .before .before .before .before .before .before .before .before .before .before .before .before .before .before .pre) .1)
 
 same-length-4 : tie.Need-same-length-4
 same-length-4 c = search needs

@@ -1,12 +1,12 @@
 -- The slot leaves.
 use Rattle.levels.proofs.Calls as laws
-use Rattle.levels.proofs.Moves as moves
+use Rattle.levels.proofs.Leave as leave
 use borrow.Author.Needs.{needs}
 use Rattle.levels.proofs.sound.unbind.Statement.{statement}
 use Rattle.levels.proofs.sound.unbind.Tie as tie
 
 owner-requires : tie.Need-owner-requires
-owner-requires c κs = moves.bound-slot-in _ _ _ (c .before .before .before .before .before .before .pre)
+owner-requires c κs = leave.bound-slot-in _ _ _ (c .before .before .before .before .before .before .pre)
 
 leave-requires : tie.Need-leave-requires
 leave-requires c κs = record { bound = c .before .before .before .before .before .before .before .before .before .before .before .before .pre; number = c .before .before .before .before .before .owner .ensures }
