@@ -1,0 +1,50 @@
+// Runs the leaf crates on small tables, sound and damaged, and shows what they answer. Each scene is a function of its own.
+mod arena_scenes;
+mod bucket_scenes;
+mod index_scenes;
+mod list_scenes;
+mod show;
+
+fn main() {
+    lists();
+    arenas();
+    indexes();
+    buckets();
+}
+
+fn lists() {
+    show::title(b"links");
+    list_scenes::moved();
+    list_scenes::emptied();
+    list_scenes::side_by_side();
+    list_scenes::no_slots();
+    list_scenes::sizes();
+    list_scenes::damaged();
+}
+
+fn arenas() {
+    show::title(b"slot arena");
+    arena_scenes::used_up();
+    arena_scenes::freed_last_first();
+    arena_scenes::no_slots();
+    arena_scenes::damaged();
+    arena_scenes::sizes();
+}
+
+fn indexes() {
+    show::title(b"key index");
+    index_scenes::filled();
+    index_scenes::used_again();
+    index_scenes::no_slots();
+    index_scenes::damaged();
+    index_scenes::sizes();
+}
+
+fn buckets() {
+    show::title(b"bucket table");
+    bucket_scenes::made();
+    bucket_scenes::raised();
+    bucket_scenes::sizes();
+    bucket_scenes::damaged();
+    bucket_scenes::misfits();
+}
