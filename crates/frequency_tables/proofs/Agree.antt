@@ -2,11 +2,10 @@
 -- reply, and either leave everything as it was or hold the same ledger.
 use mathlib.Core.Path.{_≡_, refl, sym, ap, _∙_, subst}
 use mathlib.Core.Logic.{_⊎_, inl, inr}
-use Prim.Native.Nat.{ℕ, _≤_, _<_}
 use native.Mathlib.Omega.{arith}
 use Rattle.numbers.specs.declared.Answer.{Answer}
 use Rattle.ledger.specs.Buckets.{Reply}
-use Rattle.frequency_tables.specs.Promise.{Lent, Reading, over, short, corrupt, ledger, Reads, Refuses, Does, By, Promised}
+use Rattle.frequency_tables.specs.Promise.{Lent, Reading, over, short, corrupt, ledger, Reads, Refuses, By, Promised}
 
 module _ (k : Lent) (one : (t : k .Tables) (s : k .State) (l m : k .Ledger) → k .Holds t s l → k .Holds t s m → l ≡ m) where
   pub reads-one : (t : k .Tables) (s : k .State) (v w : Reading k) → Reads k t s v → Reads k t s w → v ≡ w

@@ -1,25 +1,21 @@
 -- What binding, hitting and letting go ask of the layers below, and that they keep their promises: the needs of those three
 -- functions, each from one law of Steps.antt.
 use mathlib.Core.Path.{_≡_, refl, sym, ap, _∙_, subst}
-use mathlib.Core.Logic.{_≢_}
-use mathlib.Core.Option.{none}
-use mathlib.Core.List.{List, [], _∷_, _++_}
+use mathlib.Core.List.{List}
 use Prim.Native.Nat.{ℕ, _+_, _-_, _≤_, _<_, _^_}
 use native.Mathlib.Omega.{arith}
 use lib.ListN.{length, getD, set, length-set}
 use lib.Seq.{getD-set-other}
-use Rattle.numbers.specs.Frequency.{CEILING, raised}
+use Rattle.numbers.specs.Frequency.{raised}
 use Rattle.lists.specs.Lists.{In, Without, one}
 use Rattle.lists.proofs.Tests.{one-same}
 use Rattle.lists.proofs.Members.{in-length, in-sum}
 use Rattle.lists.proofs.Maps.{images-all}
-use Rattle.links.specs.Chain.{cells}
-use Rattle.ledger.specs.Ledger.{Ledger, Item, items, lookup, size, putAt, release, move}
+use Rattle.ledger.specs.Ledger.{Ledger, Item, items, putAt, release, move}
 use Rattle.ledger.proofs.Slots.{free-slot, bound-slot, size-and-free}
 use Rattle.slot_arena.specs.Arena as arena
 use Rattle.slot_arena.specs.declared.Taken.{Taken}
 use Rattle.slot_arena.specs.declared.Order.{Order}
-use Rattle.slot_arena.proofs.Free.{first-slot}
 use Rattle.bucket_table.specs.declared.Buckets.{Buckets}
 use Rattle.key_index.specs.Index as index
 use Rattle.levels.specs.Levels as levels
@@ -29,13 +25,11 @@ use Rattle.levels.specs.Calls as asks
 use Rattle.levels.specs.Calls.{Touches, LowestFrequency, SoundWith}
 use Rattle.levels.specs.declared.Touched.{Touched}
 use Rattle.frequency_tables.specs.declared.State.{State}
-use Rattle.frequency_tables.specs.declared.Placed.{Placed}
-use Rattle.frequency_tables.specs.declared.Hit.{Hit}
 use Rattle.frequency_tables.specs.Tables.{Tables, tables, leveled, Sized}
-use Rattle.frequency_tables.specs.Holds.{SameCells, BoundSlot, Carries, Blank}
+use Rattle.frequency_tables.specs.Holds.{BoundSlot, Carries}
 use Rattle.frequency_tables.specs.Calls.{recounted, Room, Binds, BoundIn, Hits, LetsGo, Vacant, Enters, Leaves}
 use Rattle.frequency_tables.proofs.Places.{Place, bound-place, unbound-nowhere, only-there, there, in-there}
-use Rattle.frequency_tables.proofs.Steps.{away, Parts, part, free-unbound, put-carries, hit-answer, hit-carries, release-carries, blank-left}
+use Rattle.frequency_tables.proofs.Steps.{away, part, free-unbound, put-carries, hit-carries, release-carries, blank-left}
 
 -- a slot in no list is marked free
 next-own : (t : Tables) (s : State) (l : Ledger) (h : Carries t s l) (x : ℕ) → x < l .capacity → Nowhere x (h .slots) → getD (t .nexts) x 0 ≡ x
@@ -133,13 +127,14 @@ module _ (t : Tables) (s : State) (x : ℕ) (r : BoundIn t s x) where
   slot-in-lists =
       record { us = pl .us; freq = pl .freq; xs = pl .xs; ys = pl .ys; vs = pl .vs; held = subst (Held (leveled t) (s .buckets)) (pl .is) (r .carries .lists) }
 
-  pub slot-sized : (x < length (t .keys)) × (x < length (t .epochs)) × (x < length (t .arena))
+  pub slot-sized : (x < length (t .keys)) × (x < length (t .epochs)) × (x < length (t .arena)) × (x < length (t .freqs))
   slot-sized =
       let a = slot-below in
       let b = r .carries .sized .keys-size in
       let c = r .carries .sized .epochs-size in
       let d = r .carries .sized .arena-size in
-      (omega arith, omega arith, omega arith)
+      let f = r .carries .sized .freqs-size in
+      (omega arith, omega arith, omega arith, omega arith)
 
   -- the slot's number is small enough for a place in memory
   pub slot-limit : x < 4096

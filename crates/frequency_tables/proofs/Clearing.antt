@@ -1,25 +1,20 @@
 -- Tables that are wiped, with no list, an empty index and all slots free, hold a new ledger.
-use mathlib.Core.Path.{_≡_, refl, sym, ap, _∙_, subst}
+use mathlib.Core.Path.{_≡_, refl, _∙_, subst}
 use mathlib.Core.List.{List, []}
-use Prim.Native.Nat.{ℕ, _+_, _-_, _*_, _≤_, _<_}
+use Prim.Native.Nat.{ℕ, _+_, _-_, _≤_, _<_}
 use native.Mathlib.Omega.{arith}
 use lib.ListN.{length, set, length-set, List·getD-eq-default}
 use lib.Seq.{getD-set-same, getD-set-other}
-use Rattle.numbers.specs.Marks.{LIMIT}
-use Rattle.lists.specs.Lists.{All, from}
+use Rattle.lists.specs.Lists.{from}
 use Rattle.lists.proofs.Tests.{by-eq, by-lt}
 use Rattle.lists.proofs.Members.{all-any}
 use Rattle.links.specs.Chain.{cells}
-use Rattle.ledger.specs.Ledger.{new}
 use Rattle.ledger.proofs.Changes.{new-formed}
 use Rattle.slot_arena.specs.Arena as arena
 use Rattle.slot_arena.specs.declared.Order.{Order}
 use Rattle.bucket_table.specs.declared.Buckets.{Buckets}
-use Rattle.bucket_table.specs.Records.{WORDS}
 use Rattle.key_index.specs.Index as index
 use Rattle.levels.specs.Calls as asks
-use Rattle.frequency_tables.specs.declared.State.{State}
-use Rattle.frequency_tables.specs.Tables.{tables, Sized}
 use Rattle.frequency_tables.specs.Holds.{Blank}
 use Rattle.frequency_tables.specs.Calls.{Wiped, Fitting, Cleared}
 

@@ -1,17 +1,16 @@
 -- What a ledger determines of the tables that hold it: every cell but those of the index, of the bucket records and of their spares,
 -- and the state but for where the records lie. Each slot is bound or free; a bound one has its cells from its entry and its neighbours
 -- in its list, a free one is blank.
-use mathlib.Core.Path.{_≡_, refl, sym, ap, _∙_, subst}
+use mathlib.Core.Path.{_≡_, refl, sym, _∙_, subst}
 use mathlib.Core.Logic.{_⊎_, inl, inr, _≢_, ⊎-elim}
-use mathlib.Core.List.{List, [], _∷_, _++_, map}
-use Prim.Native.Nat.{ℕ, _+_, _≤_, _<_}
+use mathlib.Core.List.{List, [], _∷_, _++_}
+use Prim.Native.Nat.{ℕ, _≤_, _<_}
 use native.Mathlib.Omega.{arith}
-use native.Mathlib.Decide.{ℕ-discrete}
-use lib.ListN.{length, getD}
+use lib.ListN.{length}
 use lib.Seq.{ext-getD}
 use Rattle.numbers.specs.Marks.{NONE}
-use Rattle.lists.specs.Lists.{All, In, Without, final, one, times}
-use Rattle.lists.proofs.Tests.{by-lt, by-eq, if-lt}
+use Rattle.lists.specs.Lists.{All, In, Without, times}
+use Rattle.lists.proofs.Tests.{by-lt, by-eq}
 use Rattle.lists.proofs.Members.{all-in, all-map, all-both, all-mid, in-times, times-in, times-without}
 use Rattle.lists.proofs.Maps.{images-all, all-images}
 use Rattle.links.specs.Chain.{cells, Chain}
@@ -21,17 +20,16 @@ use Rattle.links.specs.declared.Ends.{Ends}
 use Rattle.links.proofs.Functions.{look-at}
 use Rattle.slot_arena.specs.Arena as arena
 use Rattle.slot_arena.specs.declared.Order.{Order}
-use Rattle.ledger.specs.Ledger.{Ledger, Item, items, slotted}
+use Rattle.ledger.specs.Ledger.{Ledger}
 use Rattle.ledger.proofs.Slots.{below-yes, below-not, below-le}
 use Rattle.ledger.proofs.Split.{level-of}
 use Rattle.levels.specs.Levels as levels
-use Rattle.levels.specs.Levels.{Nowhere}
 use Rattle.levels.specs.Held.{Line, LineHeld, Free, Held}
 use Rattle.frequency_tables.specs.declared.State.{State}
 use Rattle.frequency_tables.specs.Tables.{Tables, leveled}
 use Rattle.frequency_tables.specs.Holds.{entryAt, entriesAt, levelsAt, BoundSlot, Carries, Blank, Holds}
-use Rattle.frequency_tables.proofs.Places.{Place, bound-place, unbound-nowhere, there, in-there}
-use Rattle.frequency_tables.proofs.Found.{Stands, stands}
+use Rattle.frequency_tables.proofs.Places.{bound-place, unbound-nowhere, there, in-there}
+use Rattle.frequency_tables.proofs.Found.{stands}
 
 -- The order of the free slots
 

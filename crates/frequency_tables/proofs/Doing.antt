@@ -2,12 +2,11 @@
 -- promise. A call that refuses leaves everything, a call that is done keeps free slots blank.
 use mathlib.Core.Path.{_≡_, refl, sym, ap, _∙_, subst}
 use mathlib.Core.Logic.{_≢_}
-use mathlib.Core.Option.{none, some}
 use mathlib.Core.List.{List, [], _∷_}
-use Prim.Native.Nat.{ℕ, _+_, _≤_, _<_}
+use Prim.Native.Nat.{ℕ, _≤_}
 use native.Mathlib.Omega.{arith}
 use Rattle.numbers.specs.Marks.{NONE}
-use Rattle.numbers.specs.Frequency.{CEILING, raised, capOf}
+use Rattle.numbers.specs.Frequency.{CEILING}
 use Rattle.numbers.specs.declared.Answer.{Answer}
 use Rattle.numbers.specs.declared.Answer.the-variants.{Absent, Present, Full, Empty}
 use Rattle.numbers.specs.declared.Slot.{Slot}
@@ -15,8 +14,8 @@ use Rattle.lists.specs.Lists.{All, Without, one, times}
 use Rattle.lists.proofs.Tests.{one-same}
 use Rattle.lists.proofs.Members.{all-both, in-sum, times-without}
 use Rattle.links.specs.Chain.{cells}
-use Rattle.ledger.specs.Ledger.{Ledger, Item, items, lookup, lowest, putAt, release, move}
-use Rattle.ledger.specs.Buckets.{Reply, done, refused, Outcome, insert, touchUpTo, remove, popMin}
+use Rattle.ledger.specs.Ledger.{Ledger, Item, items, lowest, release}
+use Rattle.ledger.specs.Buckets.{done, refused, Outcome, insert, touchUpTo, remove, popMin}
 use Rattle.ledger.proofs.Slots.{bound-slot, free-slot}
 use Rattle.ledger.proofs.Refusals.{done-refused}
 use Rattle.slot_arena.specs.Arena as arena
@@ -28,9 +27,9 @@ use Rattle.frequency_tables.specs.declared.State.{State}
 use Rattle.frequency_tables.specs.declared.Placed.{Placed}
 use Rattle.frequency_tables.specs.declared.Hit.{Hit}
 use Rattle.frequency_tables.specs.Tables.{Tables, tables}
-use Rattle.frequency_tables.specs.Holds.{SameCells, BoundSlot, Carries, Blank, Holds, Sound}
+use Rattle.frequency_tables.specs.Holds.{SameCells, Carries, Blank, Holds, Sound}
 use Rattle.frequency_tables.specs.Calls.{Does, Room, Binds, BoundIn, Hits, LetsGo}
-use Rattle.frequency_tables.proofs.Found.{Stands, Bound, found-at, found-nothing, Least, lowest-nothing, lowest-some}
+use Rattle.frequency_tables.proofs.Found.{Stands, found-at, found-nothing, Least, lowest-nothing, lowest-some}
 
 -- a call that refuses whatever the tables hold
 pub does-refuse : (f : Ledger → Outcome) (t : Tables) (s : State) (a : Answer) → ((l : Ledger) → Holds t s l → f l ≡ (refused a, l)) → Does f t s (refused a) t s

@@ -4,9 +4,9 @@ use mathlib.Core.Path.{_≡_, refl, sym, ap, _∙_, subst}
 use mathlib.Core.Logic.{_⊎_, inl, inr, _≢_, ⊎-elim}
 use mathlib.Core.Option.{Option, none, some}
 use mathlib.Core.List.{List, [], _∷_, _++_}
-use Prim.Native.Nat.{ℕ, _+_, _≤_, _<_}
+use Prim.Native.Nat.{ℕ, _<_}
 use native.Mathlib.Omega.{arith}
-use lib.ListN.{length, getD}
+use lib.ListN.{getD}
 use Rattle.numbers.specs.Marks.{NONE}
 use Rattle.numbers.specs.declared.Slot.{Slot}
 use Rattle.lists.specs.Lists.{All, In, final, one}
@@ -14,7 +14,7 @@ use Rattle.lists.proofs.Tests.{one-same}
 use Rattle.lists.proofs.Members.{all-map, all-mid, in-sum}
 use Rattle.lists.proofs.Maps.{all-images}
 use Rattle.links.specs.Chain.{cells}
-use Rattle.ledger.specs.Ledger.{Entry, Level, Ledger, Item, item, items, lookup, tail, lowest, NonEmpty, Rising}
+use Rattle.ledger.specs.Ledger.{Level, Ledger, Item, item, items, lookup, tail, lowest, NonEmpty, Rising}
 use Rattle.ledger.proofs.Items.{found-in}
 use Rattle.ledger.proofs.Rising.{lowest-in}
 use Rattle.ledger.proofs.Slots.{bound-slot}

@@ -1,15 +1,15 @@
 -- Where a bound slot stands in the lists, and what the ledger's changes are there: the key that is found at the slot, the lists after
 -- it is let go, and the lists after a hit. Carried by the ledger's laws on a known place, since slot and key stand once.
-use mathlib.Core.Path.{_≡_, refl, sym, ap, _∙_, subst}
+use mathlib.Core.Path.{_≡_, refl, sym, ap, _∙_}
 use mathlib.Core.Logic.{_≢_}
 use mathlib.Core.Option.{some}
 use mathlib.Core.List.{List, [], _∷_, _++_}
 use Prim.Native.Nat.{ℕ, _+_, _≤_, _<_}
 use native.Mathlib.Omega.{arith}
 use native.Mathlib.Decide.{ℕ-discrete}
-use Rattle.lists.specs.Lists.{All, In, Without, one, times}
+use Rattle.lists.specs.Lists.{In, Without, one, times}
 use Rattle.lists.proofs.Tests.{one-same}
-use Rattle.lists.proofs.Members.{all-map, all-append, all-left, all-right, Split, in-split, sum-append, times-in, times-without}
+use Rattle.lists.proofs.Members.{all-append, all-left, in-split, sum-append, times-in, times-without}
 use Rattle.links.specs.Chain.{cells}
 use Rattle.numbers.specs.Frequency.{raised}
 use Rattle.ledger.specs.Ledger.{Entry, Level, Ledger, Item, item, items, lookup, level, link, unlink, NonEmpty, Rising, slotted}

@@ -1,30 +1,26 @@
 -- The tables hold at most one ledger, and `ledgerOf` reads it off. A chain that is followed for as many steps as there are slots is
 -- met whole; rings of links are such chains.
 use mathlib.Core.Path.{_≡_, refl, sym, ap, _∙_, subst}
-use mathlib.Core.Logic.{_≢_}
-use mathlib.Core.Bool.{cond}
 use mathlib.Core.List.{List, [], _∷_, map}
 use Prim.Native.Nat.{ℕ, zero, suc, _≤_, _<_}
 use native.Mathlib.Nat.{not-suc-le-zero, le-of-suc-le-suc}
 use native.Mathlib.Omega.{arith}
-use lib.ListN.{length, getD}
-use Rattle.numbers.specs.Marks.{LIMIT, NONE}
+use lib.ListN.{length}
+use Rattle.numbers.specs.Marks.{NONE}
 use Rattle.lists.specs.Lists.{All}
 use Rattle.lists.proofs.Tests.{if-less, if-not-less}
 use Rattle.lists.proofs.Members.{all-map}
 use Rattle.links.specs.Chain.{cells, Chain}
 use Rattle.links.specs.Ring.{Links, look}
-use Rattle.links.specs.Lent.{Ring}
 use Rattle.links.proofs.Chains.{chain-length}
 use Rattle.links.proofs.Functions.{look-end, look-at}
 use Rattle.slot_arena.specs.Arena.{InUse}
-use Rattle.bucket_table.specs.declared.Buckets.{Buckets}
 use Rattle.bucket_table.specs.Records.{nums, Written, higher}
 use Rattle.ledger.specs.Ledger.{Ledger}
 use Rattle.levels.specs.Levels as levels
 use Rattle.levels.specs.Held.{Line, rows, view, LineHeld}
 use Rattle.frequency_tables.specs.declared.State.{State}
-use Rattle.frequency_tables.specs.Tables.{Tables, leveled}
+use Rattle.frequency_tables.specs.Tables.{Tables}
 use Rattle.frequency_tables.specs.Holds.{levelsAt, Carries, Holds}
 use Rattle.frequency_tables.specs.LedgerOf.{followed, listAt, slotsOf, ledgerOf}
 

@@ -5,19 +5,18 @@ use mathlib.Core.Path.{_≡_, refl, sym, ap, _∙_, subst}
 use mathlib.Core.Logic.{_≢_, _⊎_, inl, inr, _↔_, ⊎-elim}
 use mathlib.Core.Option.{none, some}
 use mathlib.Core.List.{List, [], _∷_, _++_}
-use Prim.Native.Nat.{ℕ, suc, _+_, _-_, _≤_, _<_}
+use Prim.Native.Nat.{ℕ, _+_, _-_, _≤_, _<_}
 use native.Mathlib.Omega.{arith}
-use native.Mathlib.Decide.{ℕ-discrete}
-use lib.ListN.{length, getD, set, length-set}
+use lib.ListN.{length, set, length-set}
 use lib.Seq.{lt-length-set, getD-set-same, getD-set-other}
-use Rattle.numbers.specs.Frequency.{FIRST, CEILING, raised}
-use Rattle.lists.specs.Lists.{All, In, Without, one, times}
+use Rattle.numbers.specs.Frequency.{CEILING, raised}
+use Rattle.lists.specs.Lists.{All, Without, one, times}
 use Rattle.lists.proofs.Tests.{by-lt, if-eq, one-same, one-other}
-use Rattle.lists.proofs.Members.{all-map, all-both, in-sum, times-without}
+use Rattle.lists.proofs.Members.{all-map, in-sum, times-without}
 use Rattle.lists.proofs.Maps.{images-all, all-images}
 use Rattle.links.specs.Chain.{cells}
-use Rattle.ledger.specs.Ledger.{Entry, Level, Ledger, Item, item, items, lookup, size, link, unlink, putAt, release, move, Rising, slotted, keyed, WellFormed}
-use Rattle.ledger.proofs.Items.{found-in, found-none, place, cut, items-link, items-unlink, sum-place, sum-cut-in}
+use Rattle.ledger.specs.Ledger.{Entry, Level, Ledger, Item, item, items, lookup, link, unlink, putAt, release, move, Rising, slotted, WellFormed}
+use Rattle.ledger.proofs.Items.{found-none, cut, items-link, items-unlink, sum-place, sum-cut-in}
 use Rattle.ledger.proofs.Slots.{below-le, bound-slot, free-slot, size-and-free}
 use Rattle.ledger.proofs.Changes.{putAt-formed, release-formed, move-formed, raised-fits, items-move}
 use Rattle.ledger.proofs.Split.{link-at, joined, rising-above, level-of}
@@ -35,7 +34,7 @@ use Rattle.levels.specs.Calls.{Touches, Binds, Unbinds, LowestFrequency}
 use Rattle.levels.specs.declared.Touched.{Touched}
 use Rattle.frequency_tables.specs.declared.State.{State}
 use Rattle.frequency_tables.specs.Tables.{Tables, tables, leveled, Sized}
-use Rattle.frequency_tables.specs.Holds.{entryAt, entriesAt, levelsAt, SameCells, lowestOf, BoundSlot, Carries, Blank}
+use Rattle.frequency_tables.specs.Holds.{entriesAt, levelsAt, SameCells, lowestOf, BoundSlot, Carries, Blank}
 use Rattle.frequency_tables.specs.Calls.{recounted, Vacant, Enters, Leaves}
 use Rattle.frequency_tables.proofs.Entries.{levels-append, levels-join, levels-away}
 use Rattle.frequency_tables.proofs.Places.{Place, bound-place, unbound-nowhere, there, in-there, found-there, released-lists, hit-lists}

@@ -1,7 +1,6 @@
 pub mod Tables
 pub mod Holds
 pub mod LedgerOf
-pub mod Replies
 pub mod Calls
 pub mod Promise
 pub mod Lent

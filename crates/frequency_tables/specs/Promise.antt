@@ -1,7 +1,6 @@
 -- The shape of every public promise, for the buckets and for the cache alike: what may be read from lent tables, and what a call then
 -- answers and leaves. A call takes any tables; it names one function on ledgers, and the rest is said here once.
 use mathlib.Core.Path.{_≡_}
-use mathlib.Core.List.{List}
 use Prim.Native.Nat.{ℕ, _≤_, _<_}
 use Rattle.numbers.specs.Marks.{LIMIT}
 use Rattle.numbers.specs.declared.Answer.{Answer}

@@ -2,9 +2,7 @@
 ghost use mathlib.Core.Path.{_≡_};
 ghost use Rattle.frequency_tables.specs.Calls.{recounted, dated, nextEpoch};
 use bucket_table::Buckets;
-use numbers::Answer;
 use numbers::Frequency;
-use numbers::Key;
 use numbers::Slot;
 use slot_arena::Order;
 
@@ -30,36 +28,6 @@ pub struct Placed {
 // The frequency of a key that was hit, and the state after it.
 pub struct Hit {
     pub frequency: Frequency,
-    pub state: State,
-}
-
-// An answer that has no number, and the state after the call.
-pub struct Stored {
-    pub answer: Answer,
-    pub state: State,
-}
-
-// A frequency, or why there is none.
-pub enum Level {
-    At(Frequency),
-    Refused(Answer),
-}
-
-// The same, and the state after the call.
-pub struct Leveled {
-    pub answer: Level,
-    pub state: State,
-}
-
-// A key and its frequency, or why there is none.
-pub enum Least {
-    Is(Key, Frequency),
-    Refused(Answer),
-}
-
-// The same, and the state after the call.
-pub struct Popped {
-    pub answer: Least,
     pub state: State,
 }
 

@@ -1,5 +1,4 @@
 -- The first free slot is taken, entered and put into its level; `bound-so` says that the tables carry the key then.
-use mathlib.Core.Path.{refl}
 use borrow.Author.Needs.{needs}
 use Rattle.frequency_tables.proofs.Asked as asked
 use Rattle.frequency_tables.proofs.sound.bind.Statement.{statement}
