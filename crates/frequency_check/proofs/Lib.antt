@@ -1,0 +1,4 @@
+pub mod Sides
+pub mod Wanted
+pub mod Built
+pub mod Steps
