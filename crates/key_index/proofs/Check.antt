@@ -15,7 +15,7 @@ use Rattle.lists.proofs.Tests.{by-eq}
 use Rattle.lists.proofs.Members.{all-map, all-in, all-mid, all-append, in-left, in-right, in-either, final-in, distinct-append}
 use Rattle.links.specs.Chain.{Chain, cells}
 use Rattle.links.proofs.Chains.{Walking, walk-none, walk-more, walk-done, chain-length}
-use Rattle.links.proofs.Pigeonhole.{marked-all, marked-cover}
+use Rattle.lists.proofs.Pigeonhole.{marked-all, marked-cover}
 use Rattle.key_index.specs.Index.{slotClass, OUT, linkOf, Has, Ascending, Listed, Sound}
 use Rattle.key_index.specs.Check.{Follows, marked, inIndex, Gathered}
 use Rattle.key_index.proofs.Class.{class-below}

@@ -7,7 +7,7 @@ use lib.ListN.{length}
 use lib.Dec.{eqb}
 use Rattle.lists.specs.Lists.{All, In, Distinct}
 use Rattle.links.specs.Chain.{cells}
-use Rattle.links.specs.Marks.{count}
+use Rattle.lists.specs.Marks.{count}
 use Rattle.key_index.specs.Index.{slotClass, OUT, linkOf, Has, Listed, Sound}
 use Rattle.key_index.specs.declared.Met.{Met}
 use Rattle.key_index.specs.declared.Met.the-variants.{Slots, Fault}

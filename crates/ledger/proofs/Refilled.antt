@@ -1,15 +1,15 @@
 -- A rebuild step by step, for the layers that do it in their tables: the items are gathered slot by slot, and then bound one by one.
 -- `partly ds` is the ledger in which the items ds have been bound; each step binds an absent key in the first free slot.
-use mathlib.Core.Path.{_≡_, refl, sym, ap, _∙_, subst}
+use mathlib.Core.Path.{_≡_, refl, sym, ap, _∙_}
 use mathlib.Core.Option.{none}
 use mathlib.Core.List.{List, [], _∷_, _++_, append-assoc, append-nil}
-use Prim.Native.Nat.{ℕ, zero, suc, _+_, _-_, _≤_, _<_}
+use Prim.Native.Nat.{ℕ, zero, suc, _+_, _-_, _<_}
 use native.Mathlib.Omega.{arith}
 use lib.ListN.{length, length-append}
-use Rattle.lists.specs.Lists.{All, from, sum, one}
+use Rattle.lists.specs.Lists.{All, from, one}
 use Rattle.lists.proofs.Tests.{one-same}
-use Rattle.lists.proofs.Members.{all-left, all-mid, sum-append, length-sum}
-use Rattle.ledger.specs.Ledger.{Entry, Level, Ledger, Item, items, lookup, link, putAt, Rising, keyed, WellFormed}
+use Rattle.lists.proofs.Members.{all-left, all-mid, sum-append}
+use Rattle.ledger.specs.Ledger.{Level, Ledger, Item, items, lookup, link, putAt, keyed, WellFormed}
 use Rattle.ledger.specs.Rebuild.{inSlot, bySlot, refill, rebuild}
 use Rattle.ledger.proofs.Items.{none-found}
 use Rattle.ledger.proofs.Rebuilt.{LevelFits, gathered, gathered-fits, gathered-few, gathered-keyed, refill-sum}

@@ -1,17 +1,17 @@
 -- The slots of a well-formed ledger, by counting: a bound slot is below the capacity and not free, a free one is not bound, no
 -- two bound keys share a slot, and bound and free slots make up the capacity. The last sums the counts of all slots both ways.
-use mathlib.Core.Path.{_≡_, refl, sym, ap}
-use mathlib.Core.Logic.{inl, inr}
+use mathlib.Core.Path.{_≡_, refl, sym, ap, _∙_}
 use mathlib.Core.Bool.{cond}
-use mathlib.Core.List.{List, [], _∷_}
+use mathlib.Core.List.{List, _∷_}
 use Prim.Native.Nat.{ℕ, zero, suc, _+_, _≤_, _<_}
 use native.Mathlib.Omega.{arith}
 use native.Mathlib.Decide.{ℕ-discrete}
 use lib.Dec.{ltb}
 use lib.ListN.{length}
-use Rattle.lists.specs.Lists.{In, from, sum, one, times}
-use Rattle.lists.proofs.Tests.{if-eq, if-lt, if-less, if-not-less, one-same, one-other}
-use Rattle.lists.proofs.Members.{in-sum}
+use Rattle.lists.specs.Lists.{In, from, one, times}
+use Rattle.lists.proofs.Tests.{if-eq, if-lt, if-less, if-not-less, one-same}
+use Rattle.lists.proofs.Members.{in-sum, in-all}
+use Rattle.lists.proofs.Totals.{total-same, total-add, total-ones, length-by, length-total}
 use Rattle.ledger.specs.Ledger.{Ledger, Item, items, size, slotted, WellFormed}
 use Rattle.ledger.proofs.Items.{cut, sum-cut-in, in-cut}
 
@@ -78,61 +78,17 @@ module _ (l : Ledger) (w : WellFormed l) where
         absurd (omega (arith, one-same (x .slot) (x .slot) refl, one-same (y .slot) (x .slot) (sym e)))
   ]
 
--- The sum of f over a, a + 1, ..: n of them
-
-tot : (ℕ → ℕ) → ℕ → ℕ → ℕ
-tot f a zero = 0
-tot f a (suc n) = f a + tot f (a + 1) n
-
-tot-none : (f : ℕ → ℕ) (a n : ℕ) → ((s : ℕ) → a ≤ s → f s ≡ 0) → tot f a n ≡ 0
-unfolding tot
-tot-none f a zero h = refl
-tot-none f a (suc n) h = let ih = tot-none f (a + 1) n (λ s l. h s (omega arith)) in let p = h a (omega arith) in omega arith
-
-tot-ones : (f : ℕ → ℕ) (a n : ℕ) → ((s : ℕ) → s < a + n → f s ≡ 1) → tot f a n ≡ n
-unfolding tot
-tot-ones f a zero h = refl
-tot-ones f a (suc n) h = let ih = tot-ones f (a + 1) n (λ s l. h s (omega arith)) in let p = h a (omega arith) in omega arith
-
-tot-add : (f g : ℕ → ℕ) (a n : ℕ) → tot (λ s. f s + g s) a n ≡ tot f a n + tot g a n
-unfolding tot
-tot-add f g a zero = refl
-tot-add f g a (suc n) = let ih = tot-add f g (a + 1) n in omega arith
-
-tot-one : (y a n : ℕ) → a ≤ y → y < a + n → tot (one y) a n ≡ 1
-unfolding tot
-tot-one y a zero l h = absurd (omega arith)
-tot-one y a (suc n) l h = elim (ℕ-discrete y a) [
-  | yes e ↦
-      let p = one-same y a e in
-      let q = tot-none (one y) (a + 1) n (λ s z. one-other y s (λ r. absurd (omega arith))) in
-      omega arith
-  | no d ↦ let p = one-other y a d in let ih = tot-one y (a + 1) n (omega arith) (omega arith) in omega arith
-]
-
--- members whose numbers h lie below n are counted slot by slot
-tot-sum : {A : Type 0} (h : A → ℕ) (n : ℕ) (xs : List A) → ((x : A) → In x xs → h x < n) → tot (λ s. sum (λ x. one (h x) s) xs) 0 n ≡ length xs
-tot-sum h n [] f = tot-none (λ s. 0) 0 n (λ s l. refl)
-tot-sum h n (x ∷ xs) f =
-    let p = tot-add (one (h x)) (λ s. sum (λ y. one (h y) s) xs) 0 n in
-    let x< = f x (inl refl) in
-    let q = tot-one (h x) 0 n (omega arith) (omega arith) in
-    let ih = tot-sum h n xs (λ y i. f y (inr i)) in
-    omega arith
-
 pub size-and-free : (l : Ledger) → WellFormed l → size l + length (l .free) ≡ l .capacity
 size-and-free l w =
     let all : ℕ → ℕ = λ s. slotted s (items (l .levels)) + times s (l .free) in
-    let a = tot-sum (λ (x : Item). x .slot) (l .capacity) (items (l .levels)) (λ x i. bound-slot l w x i .0) in
-    let b = tot-sum (λ (s : ℕ). s) (l .capacity) (l .free)
+    let a = length-by (λ (x : Item). x .slot) (l .capacity) (items (l .levels)) (in-all (λ (x : Item). x .slot < l .capacity) (items (l .levels)) (λ x i. bound-slot l w x i .0)) in
+    let b = length-total (l .capacity) (l .free) (in-all (λ y. y < l .capacity) (l .free)
     (λ y i.
     let o = in-sum (λ t. one t y) (l .free) y i in
     let u = one-same y y refl in
     if-lt (λ z. slotted y (items (l .levels)) + times y (l .free) ≡ z → y < l .capacity) y (l .capacity)
-    (λ h e. h) (λ h e. absurd (omega arith)) (w .slots y)) in
-    let d = tot-add (λ s. slotted s (items (l .levels))) (λ s. times s (l .free)) 0 (l .capacity) in
-    let e = tot-ones all 0 (l .capacity)
-    (λ s h.
-    if-lt (λ z. slotted s (items (l .levels)) + times s (l .free) ≡ z → slotted s (items (l .levels)) + times s (l .free) ≡ 1) s (l .capacity)
-    (λ h′ e′. e′) (λ h′ e′. absurd (omega arith)) (w .slots s)) in
+    (λ h e. h) (λ h e. absurd (omega arith)) (w .slots y))) in
+    let d = total-add (λ s. slotted s (items (l .levels))) (λ s. times s (l .free)) (l .capacity) in
+    let e = total-same all (λ s. 1) (l .capacity) (λ s h. w .slots s ∙ below-yes s (l .capacity) h) in
+    let f = total-ones (l .capacity) in
     omega arith

@@ -3,7 +3,7 @@ use mathlib.Core.Path.{_≡_, refl, sym, ap, _∙_, subst}
 use mathlib.Core.Bool.{Bool, true, false}
 use mathlib.Core.Logic.{_≢_, _↔_}
 use mathlib.Core.List.{List, [], _∷_, _++_}
-use Prim.Native.Nat.{ℕ, _+_, _<_, _≤_}
+use Prim.Native.Nat.{ℕ, _<_, _≤_}
 use native.Mathlib.Omega.{arith}
 use lib.ListN.{length, getD}
 use lib.Dec.{eqb}
@@ -22,7 +22,7 @@ use Rattle.bucket_table.specs.Records.{row, nums, frequency, higher, head, tail
 use Rattle.bucket_table.specs.Calls.{HasLevel, Places}
 use Rattle.bucket_table.proofs.Rows.{rising-around, at-spot, above-spot, above-none, above-row, row-some}
 use Rattle.levels.specs.Levels.{Level, first, lowest, lowestFrequency, headOf}
-use Rattle.levels.specs.Held.{Tabs, tabs, Line, line, rows, view, Lines, Held}
+use Rattle.levels.specs.Held.{Tabs, tabs, Line, rows, view, Lines, Held}
 use Rattle.levels.specs.Calls.{InPlace, SoundWith, Lowest, LowestFrequency, Heads}
 use Rattle.levels.proofs.Lines.{rows-append, view-all, all-view, all-rows, lines-room, records-mid, line-in, number-in, written}
 use Rattle.levels.proofs.Calls.{part}

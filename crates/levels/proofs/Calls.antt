@@ -12,7 +12,7 @@ use Rattle.lists.specs.Lists.{All, final}
 use Rattle.lists.proofs.Tests.{by-lt, if-other, if-less, if-not-less}
 use Rattle.lists.proofs.Members.{all-map, all-append, all-right, final-in, final-append}
 use Rattle.lists.proofs.Maps.{map-parts}
-use Rattle.links.specs.Lent.{lent, next, Ring}
+use Rattle.links.specs.Lent.{lent, Ring}
 use Rattle.links.specs.declared.Ends.{Ends}
 use Rattle.links.proofs.Functions.{look-end}
 use Rattle.links.proofs.Lists.{ring-distinct, ring-tail}

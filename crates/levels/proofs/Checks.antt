@@ -14,10 +14,10 @@ use Rattle.lists.specs.Lists.{All, In, times}
 use Rattle.lists.proofs.Tests.{neither, by-eq}
 use Rattle.lists.proofs.Members.{all-append, all-mid, all-of, in-without, times-in, times-without}
 use Rattle.lists.proofs.Maps.{map-cons}
-use Rattle.links.specs.Marks.{mark, count}
+use Rattle.lists.specs.Marks.{mark, count}
 use Rattle.links.specs.Lent.{lent}
 use Rattle.links.proofs.Lists.{ring-one}
-use Rattle.links.proofs.Pigeonhole.{count-more, marked-all, marked-cover}
+use Rattle.lists.proofs.Pigeonhole.{count-more, marked-all, marked-cover}
 use Rattle.bucket_table.specs.declared.Buckets.{Buckets}
 use Rattle.bucket_table.specs.Records as records
 use Rattle.bucket_table.specs.Records.{WORDS, rowOf, up, Spot, Holds}

@@ -2,7 +2,7 @@
 use mathlib.Core.Path.{_≡_, refl, sym, ap, _∙_, subst}
 use mathlib.Core.Logic.{_≢_}
 use mathlib.Core.List.{List, [], _∷_, _++_, append-assoc, append-nil}
-use Prim.Native.Nat.{ℕ, _+_, _<_, _≤_}
+use Prim.Native.Nat.{ℕ, _<_, _≤_}
 use native.Mathlib.Omega.{arith}
 use lib.ListN.{length, getD}
 use Rattle.numbers.specs.Marks.{NONE}
@@ -14,7 +14,7 @@ use Rattle.links.specs.declared.Ends.{Ends}
 use Rattle.links.proofs.Functions.{look-end, upd-same, upd-other}
 use Rattle.links.proofs.Lists.{ring-once, ring-frame}
 use Rattle.bucket_table.specs.declared.Buckets.{Buckets}
-use Rattle.bucket_table.specs.Records.{Row, row, empty, nums, head, tail, lower, owner, InTable, Holds}
+use Rattle.bucket_table.specs.Records.{Row, row, nums, head, tail, lower, owner, InTable, Holds}
 use Rattle.bucket_table.specs.Calls.{SetEnds, Dropping, Drops}
 use Rattle.bucket_table.proofs.Rows.{nums-append, row-used, below-row, room}
 use Rattle.levels.specs.Levels.{Level, level, Nowhere, keep}

@@ -4,7 +4,7 @@ use mathlib.Core.Path.{_≡_, refl, sym, ap, _∙_, subst}
 use mathlib.Core.Logic.{_≢_}
 use mathlib.Core.List.{List, [], _∷_, _++_, map-append}
 use mathlib.Core.Bool.{false}
-use Prim.Native.Nat.{ℕ, _+_, _<_, _≤_}
+use Prim.Native.Nat.{ℕ, _<_, _≤_}
 use native.Mathlib.Omega.{arith}
 use lib.ListN.{length, getD, length-append}
 use Rattle.numbers.specs.Marks.{NONE}
@@ -14,7 +14,7 @@ use Rattle.lists.proofs.Maps.{images-all, all-images, length-images, map-cons, 
 use Rattle.links.specs.Lent.{lent, Kept}
 use Rattle.links.specs.declared.Ends.{Ends}
 use Rattle.links.proofs.Lists.{ring-distinct, ring-frame}
-use Rattle.links.proofs.Pigeonhole.{pigeon}
+use Rattle.lists.proofs.Pigeonhole.{pigeon}
 use Rattle.bucket_table.specs.declared.Buckets.{Buckets}
 use Rattle.bucket_table.specs.Records.{Row, row, nums, owner, InTable, Written, Holds}
 use Rattle.bucket_table.proofs.Rows.{rows-others, row-in, row-written, nums-distinct}

@@ -5,7 +5,7 @@ use mathlib.Core.List.{List}
 use Prim.Native.Nat.{ℕ, _+_, _*_, _<_, _≤_}
 use lib.ListN.{length, getD}
 use lib.Dec.{eqb}
-use Rattle.links.specs.Marks.{count}
+use Rattle.lists.specs.Marks.{count}
 use Rattle.bucket_table.specs.Records as records
 use Rattle.bucket_table.specs.Records.{WORDS, owner, rowOf}
 use Rattle.bucket_table.specs.declared.Buckets.{Buckets}

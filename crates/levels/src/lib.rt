@@ -6,7 +6,7 @@ ghost use mathlib.Core.Bool.{true};
 ghost use mathlib.Core.Logic.{_↔_};
 ghost use Prim.Native.Nat.{_<_};
 ghost use lib.ListN.{length, getD};
-ghost use Rattle.links.specs.Marks.{count};
+ghost use Rattle.lists.specs.Marks.{count};
 ghost use Rattle.bucket_table.specs.Records.{InTable};
 ghost use Rattle.levels.specs.Held.{tabs, Even, Sound};
 ghost use Rattle.levels.specs.Check.{taken, CleanSlot, Clean, Sized, SomeRecords, SlotOk, ListWalk, LevelsWalk};

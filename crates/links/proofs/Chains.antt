@@ -3,7 +3,7 @@ use mathlib.Core.Path.{_≡_, refl, sym, ap, _∙_, subst}
 use mathlib.Core.Logic.{_⊎_, inl, inr, _≢_}
 use mathlib.Core.Bool.{false}
 use mathlib.Core.List.{List, [], _∷_, _++_, append-assoc, append-nil}
-use Prim.Native.Nat.{ℕ, _+_, _≤_, _<_}
+use Prim.Native.Nat.{ℕ, _≤_, _<_}
 use native.Mathlib.Omega.{arith}
 use lib.ListN.{length, set, length-append}
 use lib.Seq.{getD-set-other}
@@ -11,7 +11,7 @@ use Rattle.numbers.specs.Marks.{NONE}
 use Rattle.lists.specs.Lists.{All, Without, Distinct}
 use Rattle.lists.proofs.Members.{all-map, all-any}
 use Rattle.links.specs.Chain.{Chain, Walked, cells}
-use Rattle.links.proofs.Pigeonhole.{pigeon}
+use Rattle.lists.proofs.Pigeonhole.{pigeon}
 
 -- another function that agrees on the members has the same chain
 pub chain-same : (size : ℕ) (n n' : ℕ → ℕ) (f : ℕ) (xs : List ℕ) → All (λ x. n' x ≡ n x) xs → Chain size n f xs → Chain size n' f xs

@@ -1,4 +1,3 @@
-pub mod Pigeonhole
 pub mod Chains
 pub mod Functions
 pub mod Rings

@@ -1,4 +1,3 @@
 pub mod Chain
-pub mod Marks
 pub mod Ring
 pub mod Lent

@@ -1,5 +1,5 @@
 -- Laws of `map`: what holds of all images, how many they are, and what maps to a list in two parts. Each is a plain induction on the list.
-use mathlib.Core.Path.{_≡_, refl, ap, _∙_}
+use mathlib.Core.Path.{_≡_, refl, ap}
 use mathlib.Core.List.{List, [], _∷_, _++_, map}
 use Prim.Native.Nat.{ℕ, suc}
 use native.Mathlib.Omega.{arith}

@@ -25,6 +25,10 @@ module _ {A : Type 0} where
   all-in P (y ∷ ys) x h (inl e) = subst P e (h .0)
   all-in P (y ∷ ys) x h (inr i) = all-in P ys x (h .1) i
 
+  pub in-all : (P : A → Type 0) (xs : List A) → ((x : A) → In x xs → P x) → All P xs
+  in-all P [] h = tt
+  in-all P (y ∷ ys) h = (h y (inl refl), in-all P ys (λ x i. h x (inr i)))
+
   -- what holds of whatever is a member holds of all
   pub all-of : (P : A → Type 0) (xs : List A) → ((x : A) → In x xs → P x) → All P xs
   all-of P [] f = tt

@@ -13,7 +13,7 @@ use Rattle.lists.specs.Lists.{All, Without, final}
 use Rattle.lists.proofs.Members.{all-map}
 use Rattle.links.specs.Chain.{Chain, cells}
 use Rattle.links.proofs.Chains.{chain-distinct, chain-below, chain-unmarked, chain-length}
-use Rattle.links.proofs.Pigeonhole.{pigeon-others, pigeon-cover, count-le}
+use Rattle.lists.proofs.Pigeonhole.{pigeon-others, pigeon-cover, count-le}
 use Rattle.slot_arena.specs.declared.Order.{Order}
 use Rattle.slot_arena.specs.declared.Reached.{Reached}
 use Rattle.slot_arena.specs.Arena.{USED, Holds, Sound}

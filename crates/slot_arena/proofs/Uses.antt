@@ -8,7 +8,8 @@ use lib.ListN.{length, length-append}
 use Rattle.lists.specs.Lists.{All, In, Without, Distinct, from, times}
 use Rattle.lists.proofs.Tests.{by-eq}
 use Rattle.lists.proofs.Members.{all-map, all-both, all-in, all-mid, all-put, all-from, length-from, times-in, without-times}
-use Rattle.links.proofs.Pigeonhole.{length-total, distinct-times, total-add, total-ones, total-tight}
+use Rattle.lists.proofs.Totals.{length-total, total-add, total-ones, total-tight}
+use Rattle.lists.proofs.Pigeonhole.{distinct-times}
 use Rattle.slot_arena.specs.declared.Order.{Order}
 use Rattle.slot_arena.specs.declared.Taken.{Taken}
 use Rattle.slot_arena.specs.Arena.{InUse, Holds, Uses, Filled, Takes, Releases}

@@ -8,7 +8,7 @@ use lib.Dec.{eqb}
 use Rattle.numbers.specs.Marks.{NONE}
 use Rattle.lists.specs.Lists.{final}
 use Rattle.links.specs.Chain.{Walked, cells}
-use Rattle.links.specs.Marks.{count}
+use Rattle.lists.specs.Marks.{count}
 use Rattle.slot_arena.specs.Arena.{USED}
 use Rattle.slot_arena.specs.declared.Reached.{Reached}
 

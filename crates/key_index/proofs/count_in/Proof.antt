@@ -8,8 +8,8 @@ use mathlib.Core.Bool.{not}
 use lib.ListN.{length}
 use denote.Ref.{now}
 use borrow.Author.Tests.{eq-eqb, ne-eqb}
-use Rattle.links.specs.Marks.{mark, count}
-use Rattle.links.proofs.Pigeonhole.{count-more}
+use Rattle.lists.specs.Marks.{mark, count}
+use Rattle.lists.proofs.Pigeonhole.{count-more}
 use Rattle.key_index.specs.Index.{OUT, linkOf}
 use Rattle.key_index.specs.Check.{marked}
 use Rattle.key_index.proofs.count_in.Statement.{statement}

@@ -8,8 +8,8 @@ use borrow.Author.Needs.{needs}
 use Prim.Native.Nat.{_≤_, _-_}
 use mathlib.Core.Logic.{⊎-elim}
 use lib.ListN.{length}
-use Rattle.links.specs.Marks.{count}
-use Rattle.links.proofs.Pigeonhole.{count-le}
+use Rattle.lists.specs.Marks.{count}
+use Rattle.lists.proofs.Pigeonhole.{count-le}
 use Rattle.levels.specs.Check.{taken}
 use Rattle.levels.proofs.count_bound.Statement.{statement}
 use Rattle.levels.proofs.count_bound.Tie as tie

@@ -7,8 +7,8 @@ use mathlib.Core.Logic.{⊎-elim}
 use lib.ListN.{length, getD}
 use denote.Ref.{now}
 use borrow.Author.Tests.{eq-eqb, ne-eqb}
-use Rattle.links.specs.Marks.{mark, count}
-use Rattle.links.proofs.Pigeonhole.{count-more}
+use Rattle.lists.specs.Marks.{mark, count}
+use Rattle.lists.proofs.Pigeonhole.{count-more}
 use Rattle.slot_arena.specs.Arena.{USED}
 use Rattle.slot_arena.specs.Check.{marked}
 use Rattle.slot_arena.proofs.count_used.Statement.{statement}

@@ -1,65 +1,17 @@
--- Counting with lists of numbers below n. What carries it: a list of such numbers is as long as the sum, over the numbers below n, of how often each stands in it;
--- and where one function is at most another at each number, their totals are equal only if they are equal at each number.
+-- Distinct numbers below n against the numbers below n that have a mark: at most as many, and as many only if no other number has
+-- the mark. What carries it: a list of distinct numbers has each at most once, so that its length is a total (Totals.antt).
 use mathlib.Core.Path.{_≡_, refl, sym, ap, _∙_, subst}
 use mathlib.Core.Bool.{Bool, true, false, not}
 use mathlib.Core.List.{List, [], _∷_}
-use Prim.Native.Nat.{ℕ, zero, suc, _+_, _≤_, _<_}
+use Prim.Native.Nat.{ℕ, _+_, _≤_, _<_}
 use native.Mathlib.Numerals.{add-one}
 use native.Mathlib.Omega.{arith}
 use lib.ListN.{length}
-use Rattle.lists.specs.Lists.{All, In, Without, Distinct, one, times}
-use Rattle.lists.proofs.Tests.{one-same, one-other, if-eq, by-eq, neither}
+use Rattle.lists.specs.Lists.{All, In, Without, Distinct, times}
+use Rattle.lists.specs.Marks.{mark, count}
+use Rattle.lists.proofs.Tests.{if-eq, by-eq, neither}
 use Rattle.lists.proofs.Members.{all-map, without-times, in-times, times-in, times-without, in-without}
-use Rattle.links.specs.Marks.{total, mark, count}
-
--- ---- totals
-
-pub total-le : (f g : ℕ → ℕ) (n : ℕ) → ((k : ℕ) → k < n → f k ≤ g k) → total f n ≤ total g n
-total-le f g zero h = omega arith
-total-le f g (suc n) h = omega (arith, total-le f g n (λ k l. h k (omega arith)), h n (omega arith))
-
-pub total-same : (f g : ℕ → ℕ) (n : ℕ) → ((k : ℕ) → k < n → f k ≡ g k) → total f n ≡ total g n
-total-same f g n h = omega (arith, total-le f g n (λ k l. omega (arith, h k l)), total-le g f n (λ k l. omega (arith, h k l)))
-
--- nowhere more, and in total not less: everywhere the same
-pub total-tight : (f g : ℕ → ℕ) (n : ℕ) → ((k : ℕ) → k < n → f k ≤ g k) → total g n ≤ total f n → (k : ℕ) → k < n → f k ≡ g k
-total-tight f g zero h e k l = absurd (omega arith)
-total-tight f g (suc n) h e k l =
-    let below = total-le f g n (λ j m. h j (omega arith)) in
-    let here = h n (omega arith) in
-    by-eq k n
-    (λ q. subst (λ (j : ℕ). f j ≡ g j) (sym q) (omega arith))
-    (λ d. total-tight f g n (λ j m. h j (omega arith)) (omega arith) k (omega arith))
-
-pub total-add : (f g : ℕ → ℕ) (n : ℕ) → total (λ k. f k + g k) n ≡ total f n + total g n
-total-add f g zero = omega arith
-total-add f g (suc n) = omega (arith, total-add f g n)
-
-pub total-ones : (n : ℕ) → total (λ k. 1) n ≡ n
-total-ones zero = refl
-total-ones (suc n) = omega (arith, total-ones n)
-
-total-zeros : (n : ℕ) → total (λ k. 0) n ≡ 0
-total-zeros zero = refl
-total-zeros (suc n) = omega (arith, total-zeros n)
-
--- ---- lists of numbers below n
-
-one-above : (x n : ℕ) → n ≤ x → total (λ k. one x k) n ≡ 0
-one-above x n h = total-same (λ k. one x k) (λ k. 0) n (λ k l. one-other x k (λ e. omega arith)) ∙ total-zeros n
-
-one-below : (x n : ℕ) → x < n → total (λ k. one x k) n ≡ 1
-one-below x zero h = absurd (omega arith)
-one-below x (suc n) h =
-    by-eq x n
-    (λ e. omega (arith, one-same x n e, one-above x n (omega arith)))
-    (λ d. omega (arith, one-other x n d, one-below x n (omega arith)))
-
--- a list is as long as how often each number stands in it, in total
-pub length-total : (n : ℕ) (fs : List ℕ) → All (λ x. x < n) fs → length fs ≡ total (λ k. times k fs) n
-length-total n [] b = sym (total-zeros n)
-length-total n (x ∷ fs) b =
-    omega (arith, length-total n fs (b .1), total-add (λ k. one x k) (λ k. times k fs) n, one-below x n (b .0))
+use Rattle.lists.proofs.Totals.{total-le, total-same, total-tight, total-add, total-ones, length-total}
 
 pub distinct-times : (k : ℕ) (fs : List ℕ) → Distinct fs → times k fs ≤ 1
 distinct-times k [] d = omega arith
@@ -67,8 +19,6 @@ distinct-times k (x ∷ fs) d =
     if-eq (λ m. m + times k fs ≤ 1) x k
     (λ e. omega (arith, without-times k fs (subst (λ (j : ℕ). Without j fs) e (d .0))))
     (λ q. omega (arith, distinct-times k fs (d .1)))
-
--- ---- marks
 
 -- what counts up in a loop
 pub count-more : (p : ℕ → Bool) (i : ℕ) → count p (i + 1) ≡ count p i + mark (p i)
