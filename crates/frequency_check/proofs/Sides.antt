@@ -10,7 +10,7 @@ use Rattle.lists.specs.Lists.{All, times}
 use Rattle.lists.proofs.Tests.{by-eq}
 use Rattle.lists.proofs.Members.{all-map, without-times, times-without}
 use Rattle.links.specs.Chain.{cells}
-use Rattle.links.proofs.Pigeonhole.{distinct-times}
+use Rattle.lists.proofs.Pigeonhole.{distinct-times}
 use Rattle.ledger.specs.Ledger.{Ledger, size, WellFormed}
 use Rattle.ledger.proofs.Slots.{size-and-free}
 use Rattle.slot_arena.specs.declared.Order.{Order}
