@@ -8,3 +8,4 @@ pub mod Doing
 pub mod Determined
 pub mod Clearing
 pub mod Agree
+pub mod Promises
