@@ -2,6 +2,7 @@
 mod arena_scenes;
 mod bucket_scenes;
 mod index_scenes;
+mod level_scenes;
 mod list_scenes;
 mod show;
 
@@ -10,6 +11,7 @@ fn main() {
     arenas();
     indexes();
     buckets();
+    level_lists();
 }
 
 fn lists() {
@@ -47,4 +49,14 @@ fn buckets() {
     bucket_scenes::sizes();
     bucket_scenes::damaged();
     bucket_scenes::misfits();
+}
+
+fn level_lists() {
+    show::title(b"levels");
+    level_scenes::risen();
+    level_scenes::at_the_ceiling();
+    level_scenes::no_slots();
+    level_scenes::damaged();
+    level_scenes::astray();
+    level_scenes::joined();
 }

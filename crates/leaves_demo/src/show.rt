@@ -74,3 +74,35 @@ pub fn item(n: u64) {
     text(b" ");
     io::print_decimal(1, n);
 }
+
+// What was done with two numbers; the line goes on.
+pub fn two(first: &[u8], n: u64, second: &[u8], m: u64) {
+    done(first, n);
+    done(second, m);
+}
+
+// A number that was answered; the line goes on.
+pub fn gives(n: u64) {
+    done(b" gives", n);
+}
+
+// A call that was not made; the line goes on.
+pub fn refused() {
+    text(b" refused");
+}
+
+// The frequency of a level, whose slots are to follow.
+pub fn level(f: u64) {
+    done(b" |", f);
+    text(b":");
+}
+
+// The slot that would leave first, and its frequency.
+pub fn lowest(slot: u64, f: u64) {
+    if f == 0 {
+        text(b" | empty\n");
+        return;
+    }
+    two(b" | lowest", slot, b" of", f);
+    text(b"\n");
+}
