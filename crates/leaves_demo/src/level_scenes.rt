@@ -5,6 +5,7 @@ ghost use mathlib.Core.Bool.{true};
 ghost use Rattle.levels.specs.Held.{tabs};
 ghost use Rattle.levels.specs.Calls.{Bound, Binding, SoundWith};
 use crate::show;
+use crate::show::Word;
 use bucket_table::Buckets;
 use numbers::Frequency;
 use numbers::LIMIT;
@@ -105,7 +106,7 @@ fn held(
     state: Buckets,
 ) {
     if !levels::is_sound(freqs, prevs, nexts, buckets, spares, state) {
-        show::text(b": not sound\n");
+        show::text(b" | not sound\n");
         return;
     }
     shown(buckets, nexts, state);
@@ -134,7 +135,7 @@ fn bind(
         state,
         slot,
     ) {
-        show::refused();
+        show::say(Word::Refused);
         return state;
     }
     levels::sound::bind(
@@ -169,7 +170,7 @@ fn touch(
         state,
         slot,
     ) {
-        show::refused();
+        show::say(Word::Refused);
         return state;
     }
     let touched = levels::sound::touch(
@@ -205,7 +206,7 @@ fn unbind(
         state,
         slot,
     ) {
-        show::refused();
+        show::say(Word::Refused);
         return state;
     }
     levels::sound::unbind(freqs, prevs, nexts, buckets, spares, state, Slot(slot))
@@ -214,9 +215,9 @@ fn unbind(
 // Says what a step is to do.
 fn told(call: u64, slot: u64, f: u64) {
     match call {
-        BIND => show::two(b"bind", slot, b" at", f),
-        TOUCH => show::two(b"touch", slot, b" cap", f),
-        _ => show::done(b"unbind", slot),
+        BIND => show::calls(b"bind", slot, b" at", f),
+        TOUCH => show::calls(b"touch", slot, b" cap", f),
+        _ => show::call(b"unbind", slot),
     }
 }
 
@@ -454,26 +455,23 @@ pub fn astray() {
     );
 }
 
-// Two levels that lead to the same slot, and tables of two lengths.
-pub fn joined() {
+// Whether slot 0 in level 1 and slot 1 in level 2, with these links and records, are held.
+fn two_levels(what: &[u8], prevs: &[u64], nexts: [u64; 2], buckets: [u64; 12]) {
     let freqs = [1, 2];
-    let prevs = [NONE, NONE];
-    let nexts = [NONE, NONE];
     let spares = [USED, USED];
     let state = state_of(1, NONE);
-    let apart = [1, NONE, 1, 0, 0, 0, 2, 0, NONE, 1, 1, 1];
     show::verdict(
-        b"two levels",
-        levels::is_sound(&freqs, &prevs, &nexts, &apart, &spares, state),
+        what,
+        levels::is_sound(&freqs, prevs, &nexts, &buckets, &spares, state),
     );
-    show::verdict(
-        b"too short",
-        levels::is_sound(&freqs, &prevs[..1], &nexts, &apart, &spares, state),
-    );
+}
+
+// One slot in each of two levels, tables of two lengths, and levels that lead to the same slot.
+pub fn joined() {
+    let prevs = [NONE, NONE];
+    let b = [1, NONE, 1, 0, 0, 0, 2, 0, NONE, 1, 1, 1];
+    two_levels(b"two levels", &prevs, [NONE, NONE], b);
+    two_levels(b"too short", &prevs[..1], [NONE, NONE], b);
     let shared = [1, NONE, 1, 0, 1, 0, 2, 0, NONE, 1, 1, 1];
-    let on = [1, NONE];
-    show::verdict(
-        b"levels that join",
-        levels::is_sound(&freqs, &prevs, &on, &shared, &spares, state),
-    );
+    two_levels(b"levels that join", &prevs, [1, NONE], shared);
 }

@@ -1,14 +1,22 @@
-// Lists of linked slots: slots that are put in front, moved and taken out, and links that hold no list.
+// Lists of linked slots: slots that are put in front, moved and taken out, and links that hold no list. A scene is a script: two numbers
+// for each step, the call and the slot.
 ghost use mathlib.Core.Path.{_≡_};
 ghost use mathlib.Core.Bool.{true};
 ghost use mathlib.Core.Logic.{_↔_};
 ghost use Prim.Native.Nat.{_≤_};
 ghost use Rattle.links.specs.Lent.{Fits};
 use crate::show;
+use crate::show::Word;
 use links::Ends;
 use numbers::LIMIT;
 use numbers::NONE;
 use numbers::Slot;
+
+const PUSH: u64 = 0;
+
+const TO_FRONT: u64 = 1;
+
+const UNLINK: u64 = 2;
 
 // Whether the two tables have this slot, which is what every call on a list asks.
 fn fits(prevs: &[u64], nexts: &[u64], slot: u64) -> bool
@@ -51,7 +59,7 @@ fn follow(prevs: &[u64], nexts: &[u64], ends: Ends) -> bool {
 
 // The rest of a line: the slots of the list, or how far the links can be followed.
 fn slots(prevs: &[u64], nexts: &[u64], ends: Ends) {
-    show::text(b":");
+    show::text(b" |");
     if !follow(prevs, nexts, ends) {
         show::text(b" .. not sound\n");
         return;
@@ -59,43 +67,46 @@ fn slots(prevs: &[u64], nexts: &[u64], ends: Ends) {
     if ends.head == NONE {
         show::text(b" empty");
     }
-    show::text(b"\n");
+    show::end();
 }
 
-// Puts a slot in front.
-fn push(prevs: &mut [u64], nexts: &mut [u64], ends: Ends, slot: u64) -> Ends {
-    if !fits(&prevs[..], &nexts[..], slot) {
-        show::with(b"push", slot, b"refused");
-        return ends;
+// Says what a step is to do.
+fn told(call: u64, slot: u64) {
+    match call {
+        PUSH => show::call(b"push", slot),
+        TO_FRONT => show::call(b"to front", slot),
+        _ => show::call(b"unlink", slot),
     }
-    let after = links::sound::push_front(prevs, nexts, ends, Slot(slot));
-    show::done(b"push", slot);
-    slots(&prevs[..], &nexts[..], after);
-    after
 }
 
-// Moves a slot of the list to the front.
-fn to_front(prevs: &mut [u64], nexts: &mut [u64], ends: Ends, slot: u64) -> Ends {
+// One step of a script, if the tables have the slot: it is put in front, moved there, or taken out.
+fn step(prevs: &mut [u64], nexts: &mut [u64], ends: Ends, call: u64, slot: u64) -> Ends {
     if !fits(&prevs[..], &nexts[..], slot) {
-        show::with(b"to front", slot, b"refused");
+        show::say(Word::Refused);
         return ends;
     }
-    let after = links::sound::to_front(prevs, nexts, ends, Slot(slot));
-    show::done(b"to front", slot);
-    slots(&prevs[..], &nexts[..], after);
-    after
+    if call == PUSH {
+        return links::sound::push_front(prevs, nexts, ends, Slot(slot));
+    }
+    if call == TO_FRONT {
+        return links::sound::to_front(prevs, nexts, ends, Slot(slot));
+    }
+    links::sound::unlink(prevs, nexts, ends, Slot(slot))
 }
 
-// Takes a slot out of the list.
-fn unlink(prevs: &mut [u64], nexts: &mut [u64], ends: Ends, slot: u64) -> Ends {
-    if !fits(&prevs[..], &nexts[..], slot) {
-        show::with(b"unlink", slot, b"refused");
-        return ends;
+// Runs a script on a list, and shows the list after each step.
+fn run(prevs: &mut [u64], nexts: &mut [u64], from: Ends, script: &[u64]) -> Ends {
+    let mut ends = from;
+    let mut i: usize = 0;
+    while script.len() - i >= 2 {
+        let call = script[i];
+        let slot = script[i + 1];
+        i += 2;
+        told(call, slot);
+        ends = step(prevs, nexts, ends, call, slot);
+        slots(&prevs[..], &nexts[..], ends);
     }
-    let after = links::sound::unlink(prevs, nexts, ends, Slot(slot));
-    show::done(b"unlink", slot);
-    slots(&prevs[..], &nexts[..], after);
-    after
+    ends
 }
 
 // The ends of a list of no slots.
@@ -110,45 +121,42 @@ fn nothing() -> Ends {
 pub fn moved() {
     let mut prevs = [7u64; 3];
     let mut nexts = [7u64; 3];
-    let one = push(&mut prevs, &mut nexts, nothing(), 0);
-    let two = push(&mut prevs, &mut nexts, one, 1);
-    let full = push(&mut prevs, &mut nexts, two, 2);
-    let same = push(&mut prevs, &mut nexts, full, 3);
-    let head = to_front(&mut prevs, &mut nexts, same, 2);
-    let tail = to_front(&mut prevs, &mut nexts, head, 0);
-    to_front(&mut prevs, &mut nexts, tail, 2);
+    let script = [
+        PUSH,
+        0,
+        PUSH,
+        1,
+        PUSH,
+        2,
+        PUSH,
+        3,
+        TO_FRONT,
+        2,
+        TO_FRONT,
+        0,
+        TO_FRONT,
+        2,
+    ];
+    run(&mut prevs, &mut nexts, nothing(), &script);
 }
 
 // The slots of a list of three leave it: the one between the others, the head, and the last one.
 pub fn emptied() {
     let mut prevs = [NONE, 0, 1];
     let mut nexts = [1, 2, NONE];
-    let all = Ends { head: 0, tail: 2 };
-    let two = unlink(&mut prevs, &mut nexts, all, 1);
-    let one = unlink(&mut prevs, &mut nexts, two, 0);
-    let none = unlink(&mut prevs, &mut nexts, one, 2);
-    push(&mut prevs, &mut nexts, none, 1);
+    let script = [UNLINK, 1, UNLINK, 0, UNLINK, 2, PUSH, 1];
+    run(&mut prevs, &mut nexts, Ends { head: 0, tail: 2 }, &script);
 }
 
 // Two lists in the same tables: a call on one leaves the other as it was.
 pub fn side_by_side() {
     let mut prevs = [0u64; 4];
     let mut nexts = [0u64; 4];
-    let even = push(&mut prevs, &mut nexts, nothing(), 0);
-    let evens = push(&mut prevs, &mut nexts, even, 2);
-    let odd = push(&mut prevs, &mut nexts, nothing(), 1);
-    let odds = push(&mut prevs, &mut nexts, odd, 3);
-    unlink(&mut prevs, &mut nexts, evens, 0);
+    let even = run(&mut prevs, &mut nexts, nothing(), &[PUSH, 0, PUSH, 2]);
+    let odd = run(&mut prevs, &mut nexts, nothing(), &[PUSH, 1, PUSH, 3]);
+    run(&mut prevs, &mut nexts, even, &[UNLINK, 0]);
     show::text(b"the other list");
-    slots(&prevs, &nexts, odds);
-}
-
-// A list of no slots, in tables of no slots.
-pub fn no_slots() {
-    let prevs = [0u64; 1];
-    let nexts = [0u64; 1];
-    show::text(b"capacity 0");
-    slots(&prevs[..0], &nexts[..0], nothing());
+    slots(&prevs, &nexts, odd);
 }
 
 // A slot that is put into tables of these lengths.
@@ -157,7 +165,12 @@ fn sized(before: usize, after: usize, slot: u64)
 {
     let mut prevs = [0u64; 4097];
     let mut nexts = [0u64; 4097];
-    push(&mut prevs[..before], &mut nexts[..after], nothing(), slot);
+    run(
+        &mut prevs[..before],
+        &mut nexts[..after],
+        nothing(),
+        &[PUSH, slot],
+    );
 }
 
 // Tables that have no place for a slot, of no slots, of two lengths and too long; and the longest ones.

@@ -19,7 +19,6 @@ fn lists() {
     list_scenes::moved();
     list_scenes::emptied();
     list_scenes::side_by_side();
-    list_scenes::no_slots();
     list_scenes::sizes();
     list_scenes::damaged();
 }
@@ -28,18 +27,18 @@ fn arenas() {
     show::title(b"slot arena");
     arena_scenes::used_up();
     arena_scenes::freed_last_first();
-    arena_scenes::no_slots();
-    arena_scenes::damaged();
     arena_scenes::sizes();
+    arena_scenes::wrong_links();
+    arena_scenes::wrong_order();
 }
 
 fn indexes() {
     show::title(b"key index");
     index_scenes::filled();
     index_scenes::used_again();
-    index_scenes::no_slots();
-    index_scenes::damaged();
     index_scenes::sizes();
+    index_scenes::wrong_links();
+    index_scenes::wrong_places();
 }
 
 fn buckets() {
@@ -47,8 +46,9 @@ fn buckets() {
     bucket_scenes::made();
     bucket_scenes::raised();
     bucket_scenes::sizes();
-    bucket_scenes::damaged();
-    bucket_scenes::misfits();
+    bucket_scenes::wrong_links();
+    bucket_scenes::wrong_order();
+    bucket_scenes::wrong_marks();
 }
 
 fn level_lists() {

@@ -1,4 +1,16 @@
-// Lines of text on standard output: what was done, a colon, and what was answered.
+// Lines of text on standard output: what was done, a colon, what was answered, and after a bar what the tables hold then.
+
+// What a call, or a scene in its place, can answer in words.
+pub enum Word {
+    Absent,
+    Done,
+    Full,
+    No,
+    NotSound,
+    Present,
+    Refused,
+    Yes,
+}
 
 // Some bytes as they are.
 pub fn text(t: &[u8]) {
@@ -12,88 +24,70 @@ pub fn title(t: &[u8]) {
     text(b"\n");
 }
 
-// What was done, and an answer in words.
-pub fn line(done: &[u8], answer: &[u8]) {
-    text(done);
-    text(b": ");
-    text(answer);
-    text(b"\n");
-}
-
-// What was done, and an answer that is a number.
-pub fn number(done: &[u8], answer: u64) {
-    text(done);
-    text(b": ");
-    io::print_decimal(1, answer);
-    text(b"\n");
-}
-
-// What was done with a number, and an answer in words.
-pub fn with(done: &[u8], n: u64, answer: &[u8]) {
-    text(done);
-    text(b" ");
-    io::print_decimal(1, n);
-    text(b": ");
-    text(answer);
-    text(b"\n");
-}
-
-// What was asked of a number, and yes or no.
-pub fn asked(done: &[u8], n: u64, yes: bool) {
-    if yes {
-        with(done, n, b"yes");
-    } else {
-        with(done, n, b"no");
-    }
-}
-
-// Whether a table is sound.
-pub fn verdict(table: &[u8], sound: bool) {
-    if sound {
-        line(table, b"sound");
-    } else {
-        line(table, b"not sound");
-    }
-}
-
-// What was done with a number; the line goes on.
-pub fn done(done: &[u8], n: u64) {
-    text(done);
-    text(b" ");
-    io::print_decimal(1, n);
-}
-
-// A word and a number, with which the line ends.
-pub fn ending(word: &[u8], n: u64) {
-    done(word, n);
-    text(b"\n");
-}
-
 // One more number of a line.
 pub fn item(n: u64) {
     text(b" ");
     io::print_decimal(1, n);
 }
 
-// What was done with two numbers; the line goes on.
-pub fn two(first: &[u8], n: u64, second: &[u8], m: u64) {
-    done(first, n);
-    done(second, m);
+// What is to be done with a number.
+pub fn call(name: &[u8], n: u64) {
+    text(name);
+    item(n);
 }
 
-// A number that was answered; the line goes on.
+// What is to be done with two numbers.
+pub fn calls(first: &[u8], n: u64, second: &[u8], m: u64) {
+    call(first, n);
+    call(second, m);
+}
+
+// A number that was answered.
 pub fn gives(n: u64) {
-    done(b" gives", n);
+    call(b":", n);
 }
 
-// A call that was not made; the line goes on.
-pub fn refused() {
-    text(b" refused");
+// What was answered in words.
+pub fn say(word: Word) {
+    match word {
+        Word::Absent => text(b": absent"),
+        Word::Done => text(b": done"),
+        Word::Full => text(b": full"),
+        Word::No => text(b": no"),
+        Word::NotSound => text(b": not sound"),
+        Word::Present => text(b": present"),
+        Word::Refused => text(b": refused"),
+        Word::Yes => text(b": yes"),
+    }
+}
+
+// Yes or no.
+pub fn asked(yes: bool) {
+    if yes {
+        say(Word::Yes);
+    } else {
+        say(Word::No);
+    }
+}
+
+// The end of a line.
+pub fn end() {
+    text(b"\n");
+}
+
+// Whether a table is sound.
+pub fn verdict(table: &[u8], sound: bool) {
+    text(table);
+    if sound {
+        text(b": sound\n");
+    } else {
+        text(b": not sound\n");
+    }
 }
 
 // The frequency of a level, whose slots are to follow.
 pub fn level(f: u64) {
-    done(b" |", f);
+    call(b" |", f);
     text(b":");
 }
 
@@ -103,6 +97,6 @@ pub fn lowest(slot: u64, f: u64) {
         text(b" | empty\n");
         return;
     }
-    two(b" | lowest", slot, b" of", f);
-    text(b"\n");
+    calls(b" | lowest", slot, b" of", f);
+    end();
 }

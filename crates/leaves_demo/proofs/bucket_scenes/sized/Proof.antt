@@ -7,17 +7,20 @@ use Rattle.leaves_demo.proofs.bucket_scenes.sized.Tie as tie
 array-borrow-prefix-buckets : tie.Need-array-borrow-prefix-buckets
 array-borrow-prefix-buckets c = search needs
 
-slice-aggregate-tried : tie.Need-slice-aggregate-tried
-slice-aggregate-tried c = search (needs, length-take-le)
+slice-aggregate-run : tie.Need-slice-aggregate-run
+slice-aggregate-run c = search (needs, length-take-le)
 
 array-borrow-prefix-spares : tie.Need-array-borrow-prefix-spares
 array-borrow-prefix-spares c = search needs
 
-slice-aggregate-tried-2 : tie.Need-slice-aggregate-tried-2
-slice-aggregate-tried-2 c = search (needs, length-take-le)
+slice-aggregate-run-2 : tie.Need-slice-aggregate-run-2
+slice-aggregate-run-2 c = search (needs, length-take-le)
 
-tried-requires : tie.Need-tried-requires
-tried-requires c κs = search needs
+slice-aggregate-run-3 : tie.Need-slice-aggregate-run-3
+slice-aggregate-run-3 c = search needs
+
+run-requires : tie.Need-run-requires
+run-requires c κs = search needs
 
 returns : tie.Need-returns
 returns c = search needs
@@ -27,8 +30,9 @@ sized-spec =
     tie.close
     (tie.spec
     array-borrow-prefix-buckets
-    slice-aggregate-tried
+    slice-aggregate-run
     array-borrow-prefix-spares
-    slice-aggregate-tried-2
-    tried-requires
+    slice-aggregate-run-2
+    slice-aggregate-run-3
+    run-requires
     returns)

@@ -16,6 +16,9 @@ array-share-prefix-keys c = search needs
 slice-aggregate-tried-2 : tie.Need-slice-aggregate-tried-2
 slice-aggregate-tried-2 c = search (needs, length-take-le)
 
+slice-aggregate-tried-3 : tie.Need-slice-aggregate-tried-3
+slice-aggregate-tried-3 c = search needs
+
 tried-requires : tie.Need-tried-requires
 tried-requires c κs = search needs
 
@@ -30,5 +33,6 @@ sized-spec =
     slice-aggregate-tried
     array-share-prefix-keys
     slice-aggregate-tried-2
+    slice-aggregate-tried-3
     tried-requires
     returns)

@@ -7,8 +7,8 @@ use Rattle.leaves_demo.proofs.level_scenes.bind.Tie as tie
 is-ready-requires : tie.Need-is-ready-requires
 is-ready-requires c κs = search needs
 
-refused-requires : tie.Need-refused-requires
-refused-requires c κs = search needs
+say-requires : tie.Need-say-requires
+say-requires c κs = search needs
 
 same-length : tie.Need-same-length
 same-length c = search needs
@@ -54,7 +54,7 @@ bind-spec =
     tie.close
     (tie.spec
     is-ready-requires
-    refused-requires
+    say-requires
     same-length
     same-length-2
     same-length-3

@@ -7,8 +7,8 @@ use Rattle.leaves_demo.proofs.level_scenes.touch.Tie as tie
 is-bound-requires : tie.Need-is-bound-requires
 is-bound-requires c κs = search needs
 
-refused-requires : tie.Need-refused-requires
-refused-requires c κs = search needs
+say-requires : tie.Need-say-requires
+say-requires c κs = search needs
 
 same-length : tie.Need-same-length
 same-length c = search needs
@@ -57,7 +57,7 @@ touch-spec =
     tie.close
     (tie.spec
     is-bound-requires
-    refused-requires
+    say-requires
     same-length
     same-length-2
     same-length-3

@@ -7,20 +7,23 @@ use Rattle.leaves_demo.proofs.list_scenes.sized.Tie as tie
 array-borrow-prefix-prevs : tie.Need-array-borrow-prefix-prevs
 array-borrow-prefix-prevs c = search needs
 
-slice-aggregate-push : tie.Need-slice-aggregate-push
-slice-aggregate-push c = search (needs, length-take-le)
+slice-aggregate-run : tie.Need-slice-aggregate-run
+slice-aggregate-run c = search (needs, length-take-le)
 
 array-borrow-prefix-nexts : tie.Need-array-borrow-prefix-nexts
 array-borrow-prefix-nexts c = search needs
 
-slice-aggregate-push-2 : tie.Need-slice-aggregate-push-2
-slice-aggregate-push-2 c = search (needs, length-take-le)
+slice-aggregate-run-2 : tie.Need-slice-aggregate-run-2
+slice-aggregate-run-2 c = search (needs, length-take-le)
 
 nothing-requires : tie.Need-nothing-requires
 nothing-requires c κs = search needs
 
-push-requires : tie.Need-push-requires
-push-requires c κs = search needs
+slice-aggregate-run-3 : tie.Need-slice-aggregate-run-3
+slice-aggregate-run-3 c = search needs
+
+run-requires : tie.Need-run-requires
+run-requires c κs = search needs
 
 returns : tie.Need-returns
 returns c = search needs
@@ -30,9 +33,10 @@ sized-spec =
     tie.close
     (tie.spec
     array-borrow-prefix-prevs
-    slice-aggregate-push
+    slice-aggregate-run
     array-borrow-prefix-nexts
-    slice-aggregate-push-2
+    slice-aggregate-run-2
     nothing-requires
-    push-requires
+    slice-aggregate-run-3
+    run-requires
     returns)
