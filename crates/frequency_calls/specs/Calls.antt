@@ -6,8 +6,8 @@ use Rattle.frequency_tables.specs.declared.State.{State}
 use Rattle.frequency_tables.specs.Tables.{tables}
 use Rattle.frequency_tables.specs.Holds.{Sound}
 use Rattle.frequency_tables.specs.Calls.{Does}
+use Rattle.frequency_reads.specs.Replies.{levelReply}
 use Rattle.frequency_calls.specs.declared.Leveled.{Leveled}
-use Rattle.frequency_calls.specs.Replies.{levelReply}
 
 -- with some arena, the tables are sound
 abbrev pub Hittable : (k f e p n i b sp : List ℕ) → State → Type 0

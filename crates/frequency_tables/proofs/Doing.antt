@@ -169,10 +169,10 @@ module _ (t : Tables) (s : State) (x : ℕ) (low : (l : Ledger) (h : Carries t s
   pop-empty e = does-refuse popMin t s Empty (λ l h. rw (lowest-nothing t s l (h .carries) (sym (low l (h .carries)) ∙ e)))
 
   module _ (some-is : x ≢ NONE) where
-    least : (l : Ledger) (h : Carries t s l) → (y : Item) × Least t s l h y
+    pub least : (l : Ledger) (h : Carries t s l) → (y : Item) × Least t s l h y
     least l h = lowest-some t s l h (λ q. some-is (low l h ∙ q))
 
-    stands-x : (l : Ledger) (h : Carries t s l) → Stands t s l h (least l h .0) x
+    pub stands-x : (l : Ledger) (h : Carries t s l) → Stands t s l h (least l h .0) x
     stands-x l h = subst (Stands t s l h (least l h .0)) (sym (low l h)) (least l h .1 .there-is)
 
     pub pop-bound : Sound t s → BoundIn t s x
