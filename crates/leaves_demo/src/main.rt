@@ -1,7 +1,9 @@
 // Runs the leaf crates on small tables, sound and damaged, and shows what they answer. Each scene is a function of its own.
 mod arena_scenes;
+mod bucket_calls;
 mod bucket_scenes;
 mod index_scenes;
+mod level_calls;
 mod level_scenes;
 mod list_scenes;
 mod show;

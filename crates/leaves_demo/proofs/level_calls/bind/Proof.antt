@@ -1,0 +1,70 @@
+-- The test says what the call asks.
+use borrow.Author.Tests.{not-false}
+use borrow.Author.Needs.{needs}
+use Rattle.leaves_demo.proofs.level_calls.bind.Statement.{statement}
+use Rattle.leaves_demo.proofs.level_calls.bind.Tie as tie
+
+is-ready-requires : tie.Need-is-ready-requires
+is-ready-requires c κs = search needs
+
+say-requires : tie.Need-say-requires
+say-requires c κs = search needs
+
+same-length : tie.Need-same-length
+same-length c = search needs
+
+same-length-2 : tie.Need-same-length-2
+same-length-2 c = search needs
+
+same-length-3 : tie.Need-same-length-3
+same-length-3 c = search needs
+
+same-length-4 : tie.Need-same-length-4
+same-length-4 c = search needs
+
+same-length-5 : tie.Need-same-length-5
+same-length-5 c = search needs
+
+returns : tie.Need-returns
+returns c = search needs
+
+bind-requires : tie.Need-bind-requires
+bind-requires c κs = c .before .before .before .before .before .before .is-ready .ensures (not-false _ (c .before .before .before .before .before .if1 .left))
+
+same-length-6 : tie.Need-same-length-6
+same-length-6 c = search needs
+
+same-length-7 : tie.Need-same-length-7
+same-length-7 c = search needs
+
+same-length-8 : tie.Need-same-length-8
+same-length-8 c = search needs
+
+same-length-9 : tie.Need-same-length-9
+same-length-9 c = search needs
+
+same-length-10 : tie.Need-same-length-10
+same-length-10 c = search needs
+
+returns-2 : tie.Need-returns-2
+returns-2 c = search needs
+
+pub bind-spec : {M : Type 1} → statement M
+bind-spec =
+    tie.close
+    (tie.spec
+    is-ready-requires
+    say-requires
+    same-length
+    same-length-2
+    same-length-3
+    same-length-4
+    same-length-5
+    returns
+    bind-requires
+    same-length-6
+    same-length-7
+    same-length-8
+    same-length-9
+    same-length-10
+    returns-2)

@@ -1,0 +1,74 @@
+-- The test says what the call asks.
+use borrow.Author.Tests.{not-false}
+use borrow.Author.Needs.{needs}
+use Rattle.leaves_demo.proofs.level_calls.touch.Statement.{statement}
+use Rattle.leaves_demo.proofs.level_calls.touch.Tie as tie
+
+is-bound-requires : tie.Need-is-bound-requires
+is-bound-requires c κs = search needs
+
+say-requires : tie.Need-say-requires
+say-requires c κs = search needs
+
+same-length : tie.Need-same-length
+same-length c = search needs
+
+same-length-2 : tie.Need-same-length-2
+same-length-2 c = search needs
+
+same-length-3 : tie.Need-same-length-3
+same-length-3 c = search needs
+
+same-length-4 : tie.Need-same-length-4
+same-length-4 c = search needs
+
+same-length-5 : tie.Need-same-length-5
+same-length-5 c = search needs
+
+returns : tie.Need-returns
+returns c = search needs
+
+touch-requires : tie.Need-touch-requires
+touch-requires c κs = c .before .before .before .before .before .before .is-bound .ensures (not-false _ (c .before .before .before .before .before .if1 .left))
+
+gives-requires : tie.Need-gives-requires
+gives-requires c κs = search needs
+
+same-length-6 : tie.Need-same-length-6
+same-length-6 c = search needs
+
+same-length-7 : tie.Need-same-length-7
+same-length-7 c = search needs
+
+same-length-8 : tie.Need-same-length-8
+same-length-8 c = search needs
+
+same-length-9 : tie.Need-same-length-9
+same-length-9 c = search needs
+
+same-length-10 : tie.Need-same-length-10
+same-length-10 c = search needs
+
+returns-2 : tie.Need-returns-2
+returns-2 c = search needs
+
+pub touch-spec : {M : Type 1} → statement M
+touch-spec =
+    tie.close
+    (tie.spec
+    is-bound-requires
+    say-requires
+    same-length
+    same-length-2
+    same-length-3
+    same-length-4
+    same-length-5
+    returns
+    touch-requires
+    gives-requires
+    same-length-6
+    same-length-7
+    same-length-8
+    same-length-9
+    same-length-10
+    returns-2)
