@@ -1,11 +1,10 @@
 // The slot arena: slots that are handed out and taken back, and tables that are no arena. A scene is a script: two numbers for each step,
 // the call and the slot.
 ghost use Prim.Native.Nat.{_≤_};
-use crate::show;
-use crate::show::Word;
 use numbers::LIMIT;
 use numbers::NONE;
 use numbers::Slot;
+use show::Word;
 use slot_arena::Order;
 use slot_arena::USED;
 

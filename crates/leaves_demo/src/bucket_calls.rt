@@ -2,12 +2,11 @@
 // asks is tested first. A record is shown by its frequency, since its number may be any.
 ghost use Rattle.bucket_table.specs.Records.{Sound};
 ghost use Rattle.bucket_table.specs.Check.{Sized};
-use crate::show;
-use crate::show::Word;
 use bucket_table::Buckets;
 use numbers::Frequency;
 use numbers::LIMIT;
 use numbers::NONE;
+use show::Word;
 use slot_arena::Order;
 
 pub const MAKE: u64 = 0;

@@ -6,7 +6,6 @@ use crate::bucket_calls::RAISE;
 use crate::bucket_calls::REMOVE;
 use crate::bucket_calls::run;
 use crate::bucket_calls::state_of;
-use crate::show;
 use numbers::NONE;
 use slot_arena::USED;
 

@@ -1,13 +1,12 @@
 // The key index: keys that are put in, found and taken out, and tables that are no index. A scene is a script: two numbers for each step,
 // the call and the slot or the key.
 ghost use Prim.Native.Nat.{_≤_};
-use crate::show;
-use crate::show::Word;
 use key_index::Found;
 use key_index::OUT;
 use numbers::Key;
 use numbers::NONE;
 use numbers::Slot;
+use show::Word;
 
 const INSERT: u64 = 0;
 

@@ -5,12 +5,11 @@ ghost use mathlib.Core.Bool.{true};
 ghost use mathlib.Core.Logic.{_↔_};
 ghost use Prim.Native.Nat.{_≤_};
 ghost use Rattle.links.specs.Lent.{Fits};
-use crate::show;
-use crate::show::Word;
 use links::Ends;
 use numbers::LIMIT;
 use numbers::NONE;
 use numbers::Slot;
+use show::Word;
 
 const PUSH: u64 = 0;
 

@@ -1,19 +1,15 @@
-// Runs the leaf crates on small tables, sound and damaged, and shows what they answer. Each scene is a function of its own.
+// Runs the lists, the arena, the index and the bucket table on small tables, sound and damaged, and shows what they answer.
 mod arena_scenes;
 mod bucket_calls;
 mod bucket_scenes;
 mod index_scenes;
-mod level_calls;
-mod level_scenes;
 mod list_scenes;
-mod show;
 
 fn main() {
     lists();
     arenas();
     indexes();
     buckets();
-    level_lists();
 }
 
 fn lists() {
@@ -51,14 +47,4 @@ fn buckets() {
     bucket_scenes::wrong_links();
     bucket_scenes::wrong_order();
     bucket_scenes::wrong_marks();
-}
-
-fn level_lists() {
-    show::title(b"levels");
-    level_scenes::risen();
-    level_scenes::at_the_ceiling();
-    level_scenes::no_slots();
-    level_scenes::damaged();
-    level_scenes::astray();
-    level_scenes::joined();
 }

@@ -1,7 +1,7 @@
 -- Each turn uses up one of as many steps as there are slots.
 use borrow.Author.Needs.{needs}
-use Rattle.leaves_demo.proofs.level_calls.slots.Statement.{statement}
-use Rattle.leaves_demo.proofs.level_calls.slots.Tie as tie
+use Rattle.levels_demo.proofs.level_calls.slots.Statement.{statement}
+use Rattle.levels_demo.proofs.level_calls.slots.Tie as tie
 
 abbrev Inv-loop : tie.InvT-loop
 Inv-loop nexts first slot₀ left₀ slot left = Unit {0}

@@ -4,13 +4,12 @@ ghost use mathlib.Core.Path.{_≡_};
 ghost use mathlib.Core.Bool.{true};
 ghost use Rattle.levels.specs.Held.{tabs};
 ghost use Rattle.levels.specs.Calls.{Bound, Binding, SoundWith};
-use crate::show;
-use crate::show::Word;
 use bucket_table::Buckets;
 use numbers::Frequency;
 use numbers::LIMIT;
 use numbers::NONE;
 use numbers::Slot;
+use show::Word;
 use slot_arena::Order;
 
 pub const BIND: u64 = 0;

@@ -1,8 +1,8 @@
 -- Each turn is one frequency nearer to the last that is shown.
 use Prim.Native.Nat.{_-_}
 use borrow.Author.Needs.{needs}
-use Rattle.leaves_demo.proofs.level_calls.shown.Statement.{statement}
-use Rattle.leaves_demo.proofs.level_calls.shown.Tie as tie
+use Rattle.levels_demo.proofs.level_calls.shown.Statement.{statement}
+use Rattle.levels_demo.proofs.level_calls.shown.Tie as tie
 
 abbrev Inv-loop : tie.InvT-loop
 Inv-loop buckets nexts state f₀ f = Unit {0}

@@ -4,7 +4,6 @@ use crate::level_calls::TOUCH;
 use crate::level_calls::UNBIND;
 use crate::level_calls::run;
 use crate::level_calls::state_of;
-use crate::show;
 use numbers::NONE;
 use slot_arena::USED;
 

@@ -1,11 +1,11 @@
 -- The test says what the call asks.
 use borrow.Author.Tests.{not-false}
 use borrow.Author.Needs.{needs}
-use Rattle.leaves_demo.proofs.level_calls.unbind.Statement.{statement}
-use Rattle.leaves_demo.proofs.level_calls.unbind.Tie as tie
+use Rattle.levels_demo.proofs.level_calls.bind.Statement.{statement}
+use Rattle.levels_demo.proofs.level_calls.bind.Tie as tie
 
-is-bound-requires : tie.Need-is-bound-requires
-is-bound-requires c κs = search needs
+is-ready-requires : tie.Need-is-ready-requires
+is-ready-requires c κs = search needs
 
 say-requires : tie.Need-say-requires
 say-requires c κs = search needs
@@ -28,8 +28,8 @@ same-length-5 c = search needs
 returns : tie.Need-returns
 returns c = search needs
 
-unbind-requires : tie.Need-unbind-requires
-unbind-requires c κs = c .before .before .before .before .before .before .is-bound .ensures (not-false _ (c .before .before .before .before .before .if1 .left))
+bind-requires : tie.Need-bind-requires
+bind-requires c κs = c .before .before .before .before .before .before .is-ready .ensures (not-false _ (c .before .before .before .before .before .if1 .left))
 
 same-length-6 : tie.Need-same-length-6
 same-length-6 c = search needs
@@ -49,11 +49,11 @@ same-length-10 c = search needs
 returns-2 : tie.Need-returns-2
 returns-2 c = search needs
 
-pub unbind-spec : {M : Type 1} → statement M
-unbind-spec =
+pub bind-spec : {M : Type 1} → statement M
+bind-spec =
     tie.close
     (tie.spec
-    is-bound-requires
+    is-ready-requires
     say-requires
     same-length
     same-length-2
@@ -61,7 +61,7 @@ unbind-spec =
     same-length-4
     same-length-5
     returns
-    unbind-requires
+    bind-requires
     same-length-6
     same-length-7
     same-length-8

@@ -1,11 +1,11 @@
 -- The test says what the call asks.
 use borrow.Author.Tests.{not-false}
 use borrow.Author.Needs.{needs}
-use Rattle.leaves_demo.proofs.level_calls.bind.Statement.{statement}
-use Rattle.leaves_demo.proofs.level_calls.bind.Tie as tie
+use Rattle.levels_demo.proofs.level_calls.touch.Statement.{statement}
+use Rattle.levels_demo.proofs.level_calls.touch.Tie as tie
 
-is-ready-requires : tie.Need-is-ready-requires
-is-ready-requires c κs = search needs
+is-bound-requires : tie.Need-is-bound-requires
+is-bound-requires c κs = search needs
 
 say-requires : tie.Need-say-requires
 say-requires c κs = search needs
@@ -28,8 +28,11 @@ same-length-5 c = search needs
 returns : tie.Need-returns
 returns c = search needs
 
-bind-requires : tie.Need-bind-requires
-bind-requires c κs = c .before .before .before .before .before .before .is-ready .ensures (not-false _ (c .before .before .before .before .before .if1 .left))
+touch-requires : tie.Need-touch-requires
+touch-requires c κs = c .before .before .before .before .before .before .is-bound .ensures (not-false _ (c .before .before .before .before .before .if1 .left))
+
+gives-requires : tie.Need-gives-requires
+gives-requires c κs = search needs
 
 same-length-6 : tie.Need-same-length-6
 same-length-6 c = search needs
@@ -49,11 +52,11 @@ same-length-10 c = search needs
 returns-2 : tie.Need-returns-2
 returns-2 c = search needs
 
-pub bind-spec : {M : Type 1} → statement M
-bind-spec =
+pub touch-spec : {M : Type 1} → statement M
+touch-spec =
     tie.close
     (tie.spec
-    is-ready-requires
+    is-bound-requires
     say-requires
     same-length
     same-length-2
@@ -61,7 +64,8 @@ bind-spec =
     same-length-4
     same-length-5
     returns
-    bind-requires
+    touch-requires
+    gives-requires
     same-length-6
     same-length-7
     same-length-8

@@ -3,8 +3,8 @@ use mathlib.Core.Path.{_≡_}
 use Prim.Native.Nat.{_≤_, _-_}
 use lib.ListN.{length}
 use borrow.Author.Needs.{needs}
-use Rattle.leaves_demo.proofs.level_calls.run.Statement.{statement}
-use Rattle.leaves_demo.proofs.level_calls.run.Tie as tie
+use Rattle.levels_demo.proofs.level_calls.run.Statement.{statement}
+use Rattle.levels_demo.proofs.level_calls.run.Tie as tie
 
 abbrev Inv-loop : tie.InvT-loop
 Inv-loop freqs₀ prevs₀ nexts₀ buckets₀ spares₀ script state₀ i₀ freqs prevs nexts buckets spares state i = (i ≤ length script) × (length freqs ≡ length freqs₀) × (length prevs ≡ length prevs₀) × (length nexts ≡ length nexts₀) × (length buckets ≡ length buckets₀) × (length spares ≡ length spares₀)

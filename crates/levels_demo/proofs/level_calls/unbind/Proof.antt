@@ -1,8 +1,8 @@
 -- The test says what the call asks.
 use borrow.Author.Tests.{not-false}
 use borrow.Author.Needs.{needs}
-use Rattle.leaves_demo.proofs.level_calls.touch.Statement.{statement}
-use Rattle.leaves_demo.proofs.level_calls.touch.Tie as tie
+use Rattle.levels_demo.proofs.level_calls.unbind.Statement.{statement}
+use Rattle.levels_demo.proofs.level_calls.unbind.Tie as tie
 
 is-bound-requires : tie.Need-is-bound-requires
 is-bound-requires c κs = search needs
@@ -28,11 +28,8 @@ same-length-5 c = search needs
 returns : tie.Need-returns
 returns c = search needs
 
-touch-requires : tie.Need-touch-requires
-touch-requires c κs = c .before .before .before .before .before .before .is-bound .ensures (not-false _ (c .before .before .before .before .before .if1 .left))
-
-gives-requires : tie.Need-gives-requires
-gives-requires c κs = search needs
+unbind-requires : tie.Need-unbind-requires
+unbind-requires c κs = c .before .before .before .before .before .before .is-bound .ensures (not-false _ (c .before .before .before .before .before .if1 .left))
 
 same-length-6 : tie.Need-same-length-6
 same-length-6 c = search needs
@@ -52,8 +49,8 @@ same-length-10 c = search needs
 returns-2 : tie.Need-returns-2
 returns-2 c = search needs
 
-pub touch-spec : {M : Type 1} → statement M
-touch-spec =
+pub unbind-spec : {M : Type 1} → statement M
+unbind-spec =
     tie.close
     (tie.spec
     is-bound-requires
@@ -64,8 +61,7 @@ touch-spec =
     same-length-4
     same-length-5
     returns
-    touch-requires
-    gives-requires
+    unbind-requires
     same-length-6
     same-length-7
     same-length-8

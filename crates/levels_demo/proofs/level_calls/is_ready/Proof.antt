@@ -4,10 +4,10 @@ use mathlib.Core.Bool.{false}
 use Rattle.lists.proofs.Tests.{neither}
 use native.Mathlib.Omega.{arith}
 use borrow.Author.Tests.{not-false}
-use Rattle.leaves_demo.proofs.Levels.{is-free}
+use Rattle.levels_demo.proofs.Levels.{is-free}
 use borrow.Author.Needs.{needs}
-use Rattle.leaves_demo.proofs.level_calls.is_ready.Statement.{statement}
-use Rattle.leaves_demo.proofs.level_calls.is_ready.Tie as tie
+use Rattle.levels_demo.proofs.level_calls.is_ready.Statement.{statement}
+use Rattle.levels_demo.proofs.level_calls.is_ready.Tie as tie
 
 is-sound-requires : tie.Need-is-sound-requires
 is-sound-requires c κs = search needs

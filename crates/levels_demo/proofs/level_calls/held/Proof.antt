@@ -1,8 +1,8 @@
 -- The test says that the levels are sound.
 use borrow.Author.Tests.{not-false}
 use borrow.Author.Needs.{needs}
-use Rattle.leaves_demo.proofs.level_calls.held.Statement.{statement}
-use Rattle.leaves_demo.proofs.level_calls.held.Tie as tie
+use Rattle.levels_demo.proofs.level_calls.held.Statement.{statement}
+use Rattle.levels_demo.proofs.level_calls.held.Tie as tie
 
 is-sound-requires : tie.Need-is-sound-requires
 is-sound-requires c κs = search needs
