@@ -10,6 +10,7 @@ ghost use Rattle.frequency_tables.specs.Tables.{tables};
 ghost use Rattle.frequency_tables.specs.Holds.{Sound};
 ghost use Rattle.frequency_tables.specs.Lent as lent;
 ghost use Rattle.frequency_tables.specs.Promise.{Checks};
+ghost use Rattle.frequency_tables.specs.Making.{Measures};
 ghost use Rattle.frequency_check.specs.Check.{SlotTables, PartTables, Allowed, Beside, Off, Agree, AgreeBelow};
 use bucket_table::WORDS;
 use frequency_tables::State;
@@ -153,6 +154,33 @@ fn is_sound(
     state.lowest == levels::sound::lowest_frequency(buckets, state.buckets).0
 }
 
+// Why tables cannot serve a capacity: Capacity or Short; or Done, where they have the lengths that it calls for.
+pub fn misfit(
+    keys: &[u64],
+    freqs: &[u64],
+    epochs: &[u64],
+    prevs: &[u64],
+    nexts: &[u64],
+    arena: &[u64],
+    index: &[u64],
+    buckets: &[u64],
+    spares: &[u64],
+    capacity: u64,
+) -> Answer
+    ensures { λ r. ⌜ Measures lent.buckets (tables (now (keys .entry)) (now (freqs .entry)) (now (epochs .entry)) (now (prevs .entry)) (now (nexts .entry)) (now (arena .entry)) (now (index .entry)) (now (buckets .entry)) (now (spares .entry))) capacity r ⌝ }
+{
+    if LIMIT < capacity {
+        return Answer::Capacity;
+    }
+    if !slot_tables_fit(keys, freqs, epochs, prevs, nexts, capacity) {
+        return Answer::Short;
+    }
+    if !part_tables_fit(arena, index, buckets, spares, capacity) {
+        return Answer::Short;
+    }
+    Answer::Done
+}
+
 // Why a call on these tables is refused before it begins: Capacity, Short or Corrupt; or Done, where they hold a ledger.
 pub fn refusal(
     keys: &[u64],
@@ -168,14 +196,20 @@ pub fn refusal(
 ) -> Answer
     ensures { λ r. ⌜ Checks lent.buckets (tables (now (keys .entry)) (now (freqs .entry)) (now (epochs .entry)) (now (prevs .entry)) (now (nexts .entry)) (now (arena .entry)) (now (index .entry)) (now (buckets .entry)) (now (spares .entry))) state r ⌝ }
 {
-    if LIMIT < state.capacity {
-        return Answer::Capacity;
-    }
-    if !slot_tables_fit(keys, freqs, epochs, prevs, nexts, state.capacity) {
-        return Answer::Short;
-    }
-    if !part_tables_fit(arena, index, buckets, spares, state.capacity) {
-        return Answer::Short;
+    let size = misfit(
+        keys,
+        freqs,
+        epochs,
+        prevs,
+        nexts,
+        arena,
+        index,
+        buckets,
+        spares,
+        state.capacity,
+    );
+    if !size.is_done() {
+        return size;
     }
     if !is_sound(
         keys,

@@ -5,13 +5,14 @@ use mathlib.Core.Option.{none, some}
 use mathlib.Core.List.{List, [], _∷_}
 use Prim.Native.Nat.{ℕ, _<_}
 use native.Mathlib.Omega.{arith}
+use lib.Dec.{eqb}
 use lib.ListN.{length}
 use Rattle.numbers.specs.Marks.{NONE}
 use Rattle.numbers.specs.declared.Answer.the-variants.{Absent, Empty}
 use Rattle.numbers.specs.declared.Slot.{Slot}
 use Rattle.links.specs.Chain.{cells}
 use Rattle.ledger.specs.Ledger.{Entry, Level, Ledger, Item, ifFound, lookup, tail, lowest, NonEmpty, Rising}
-use Rattle.ledger.specs.Buckets.{Outcome, done, refused, contains, frequency, entryEpoch, minFreq, peekMin}
+use Rattle.ledger.specs.Buckets.{Outcome, done, refused, yesNo, contains, frequency, entryEpoch, currentEpoch, len, isEmpty, minFreq, peekMin}
 use Rattle.key_index.specs.Index as index
 use Rattle.key_index.specs.declared.Found.the-variants.{At, Nothing}
 use Rattle.levels.specs.Levels as levels
@@ -96,6 +97,20 @@ module _ (t : Tables) (s : State) where
   min-some d l h =
       let w = some-lowest (l .levels) (h .carries .formed .rising) (λ q. d (h .carries .lowest ∙ q)) in
       rw (w .1) (ap (λ (m : ℕ). done (m ∷ [])) (h .carries .lowest ∙ sym (w .2)))
+
+  -- epoch and count of the state are the ledger's
+
+  pub epoch-told : Tells currentEpoch t s (done (s .epoch ∷ []))
+  unfolding currentEpoch
+  epoch-told l h = ap (λ (m : ℕ). done (m ∷ [])) (h .carries .epoch)
+
+  pub len-told : Tells len t s (done (s .count ∷ []))
+  unfolding len
+  len-told l h = ap (λ (m : ℕ). done (m ∷ [])) (h .carries .count)
+
+  pub empty-told : Tells isEmpty t s (done (yesNo (eqb (s .count) 0) ∷ []))
+  unfolding isEmpty
+  empty-told l h = ap (λ (m : ℕ). done (yesNo (eqb m 0) ∷ [])) (h .carries .count)
 
 -- The tail of the lowest list
 

@@ -22,3 +22,15 @@ pub enum Epoch {
     Is(u64),
     Refused(Answer),
 }
+
+// A count, or why there is none.
+pub enum Count {
+    Is(u64),
+    Refused(Answer),
+}
+
+// Yes or no, or why there is neither.
+pub enum Asked {
+    Is(bool),
+    Refused(Answer),
+}

@@ -4,7 +4,7 @@ ghost use mathlib.Core.Path.{_≡_};
 ghost use lib.ListN.{length};
 ghost use Rattle.ledger.specs.Buckets as ledger;
 ghost use Rattle.key_index.specs.Index.{Sound};
-ghost use Rattle.frequency_reads.specs.Replies.{yesReply, levelReply, leastReply, epochReply};
+ghost use Rattle.frequency_reads.specs.Replies.{yesReply, numberReply, levelReply, leastReply, epochReply};
 ghost use Rattle.frequency_reads.specs.Reads.{OfKeys, OfFrequencies, OfEpochs, OfState, Peekable, OfLeast};
 use crate::Epoch;
 use crate::Least;
@@ -57,6 +57,27 @@ pub fn min_freq(state: State) -> Level
         return Level::Refused(Answer::Empty);
     }
     Level::At(Frequency(state.lowest))
+}
+
+// The current epoch.
+pub fn current_epoch(state: State) -> u64
+    ensures { λ r. ⌜ OfState state ledger.currentEpoch (numberReply r) ⌝ }
+{
+    state.epoch
+}
+
+// How many keys are bound.
+pub fn len(state: State) -> u64
+    ensures { λ r. ⌜ OfState state ledger.len (numberReply r) ⌝ }
+{
+    state.count
+}
+
+// Whether no key is bound.
+pub fn is_empty(state: State) -> bool
+    ensures { λ r. ⌜ OfState state ledger.isEmpty (yesReply r) ⌝ }
+{
+    state.count == 0
 }
 
 // The key at the tail of the lowest list.

@@ -2,10 +2,12 @@
 -- reply, and either leave everything as it was or hold the same ledger.
 use mathlib.Core.Path.{_≡_, refl, sym, ap, _∙_, subst}
 use mathlib.Core.Logic.{_⊎_, inl, inr}
+use Prim.Native.Nat.{ℕ}
 use native.Mathlib.Omega.{arith}
 use Rattle.numbers.specs.declared.Answer.{Answer}
 use Rattle.ledger.specs.Buckets.{Reply}
 use Rattle.frequency_tables.specs.Promise.{Lent, Reading, over, short, corrupt, ledger, Reads, Refuses, By, Promised}
+use Rattle.frequency_tables.specs.Making.{Sizing, tooLarge, tooShort, fitting, Sizes, MadeBy, Made}
 
 module _ (k : Lent) (one : (t : k .Tables) (s : k .State) (l m : k .Ledger) → k .Holds t s l → k .Holds t s m → l ≡ m) where
   pub reads-one : (t : k .Tables) (s : k .State) (v w : Reading k) → Reads k t s v → Reads k t s w → v ≡ w
@@ -48,3 +50,26 @@ module _ (k : Lent) (one : (t : k .Tables) (s : k .State) (l m : k .Ledger) → 
       Promised k f t s r t' s' → Promised k f t s q u' z' → Agree r t' s' q u' z'
   promised-agree f t s r q t' u' s' z' a b =
       by-agree f t s (a .0) r q t' u' s' z' (a .2) (subst (By k f t s q u' z') (reads-one t s (b .0) (a .0) (b .1) (a .1)) (b .2))
+
+  -- And two results of making tables.
+  sizes-one : (t : k .Tables) (c : ℕ) (v w : Sizing k) → Sizes k t c v → Sizes k t c w → v ≡ w
+  sizes-one t c tooLarge tooLarge p q = refl
+  sizes-one t c tooLarge tooShort p q = absurd (omega arith)
+  sizes-one t c tooLarge fitting p q = absurd (omega arith)
+  sizes-one t c tooShort tooLarge p q = absurd (omega arith)
+  sizes-one t c tooShort tooShort p q = refl
+  sizes-one t c tooShort fitting p q = absurd (p .1 (q .1))
+  sizes-one t c fitting tooLarge p q = absurd (omega arith)
+  sizes-one t c fitting tooShort p q = absurd (q .1 (p .1))
+  sizes-one t c fitting fitting p q = refl
+
+  made-by-agree : (none : k .State) (l : k .Ledger) (t : k .Tables) (v : Sizing k) (r q : Reply) (t' u' : k .Tables) (s' z' : k .State) →
+      MadeBy k none l t r t' s' v → MadeBy k none l t q u' z' v → Agree r t' s' q u' z'
+  made-by-agree none l t tooLarge r q t' u' s' z' a b = refuses-agree t none _ r q t' u' s' z' a b
+  made-by-agree none l t tooShort r q t' u' s' z' a b = refuses-agree t none _ r q t' u' s' z' a b
+  made-by-agree none l t fitting r q t' u' s' z' a b = record { reply = a .0 ∙ sym (b .0); after = inr (l, a .1, b .1) }
+
+  pub made-agree : (none : k .State) (l : k .Ledger) (c : ℕ) (t : k .Tables) (r q : Reply) (t' u' : k .Tables) (s' z' : k .State) →
+      Made k none l c t r t' s' → Made k none l c t q u' z' → Agree r t' s' q u' z'
+  made-agree none l c t r q t' u' s' z' a b =
+      made-by-agree none l t (a .0) r q t' u' s' z' (a .2) (subst (MadeBy k none l t q u' z') (sizes-one t c (b .0) (a .0) (b .1) (a .1)) (b .2))

@@ -1,22 +1,25 @@
--- Tables that are wiped, with no list, an empty index and all slots free, hold a new ledger.
+-- A table that is wiped; and tables with no list, an empty index and all slots free, which carry a ledger with no key.
 use mathlib.Core.Path.{_≡_, refl, _∙_, subst}
 use mathlib.Core.List.{List, []}
-use Prim.Native.Nat.{ℕ, _+_, _-_, _≤_, _<_}
+use Prim.Native.Nat.{ℕ, _+_, _-_, _*_, _≤_, _<_}
 use native.Mathlib.Omega.{arith}
 use lib.ListN.{length, set, length-set, List·getD-eq-default}
 use lib.Seq.{getD-set-same, getD-set-other}
 use Rattle.lists.specs.Lists.{from}
 use Rattle.lists.proofs.Tests.{by-eq, by-lt}
-use Rattle.lists.proofs.Members.{all-any}
 use Rattle.links.specs.Chain.{cells}
+use Rattle.ledger.specs.Ledger.{new, WellFormed}
+use Rattle.ledger.specs.Buckets.{atEpoch}
 use Rattle.ledger.proofs.Changes.{new-formed}
 use Rattle.slot_arena.specs.Arena as arena
 use Rattle.slot_arena.specs.declared.Order.{Order}
 use Rattle.bucket_table.specs.declared.Buckets.{Buckets}
+use Rattle.bucket_table.specs.Records.{WORDS}
 use Rattle.key_index.specs.Index as index
 use Rattle.levels.specs.Calls as asks
-use Rattle.frequency_tables.specs.Holds.{Blank}
-use Rattle.frequency_tables.specs.Calls.{Wiped, Fitting, Cleared}
+use Rattle.frequency_tables.specs.Tables.{tables}
+use Rattle.frequency_tables.specs.Holds.{Carries}
+use Rattle.frequency_tables.specs.Calls.{Wiped, Fitting}
 
 -- A table that is being wiped: so far up to i
 pub record Wiping (t : List ℕ) (m : ℕ) (t' : List ℕ) (i : ℕ) : Type 0 where
@@ -48,41 +51,39 @@ wiping-end t m t' i b w = record {
 
 -- All slots free
 
-module _ (k f e p n a i sp : List ℕ) (c : ℕ) (fits : Fitting k f e p n a i sp c) (k' f' e' p' n' a' i' sp' : List ℕ) (o : Order) (bk : Buckets)
-    (wiped-keys : Wiped k 0 k') (wiped-epochs : Wiped e 0 e') (no-lists : asks.Resets f f' p' n' sp' bk) (no-index : index.Clears i i') (all-free : arena.Filled a 0 a' o)
-    (sizes : (length f' ≡ length f) × (length p' ≡ length p) × (length n' ≡ length n) × (length sp' ≡ length sp)) where
-  pub cleared : Cleared k' f' e' p' n' a' i' sp' c (record { capacity = c; count = 0; lowest = 0; epoch = 0; free = o; buckets = bk })
-  cleared b len =
+module _ (k f e p n a i sp : List ℕ) (c epoch : ℕ) (fits : Fitting k f e p n a i sp c) (k' f' e' p' n' a' i' sp' : List ℕ) (o : Order) (bk : Buckets)
+    (no-lists : asks.Resets f f' p' n' sp' bk) (no-index : index.Clears i i') (all-free : arena.Filled a 0 a' o)
+    (sizes : (length k' ≡ length k) × (length e' ≡ length e) × (length f' ≡ length f) × (length p' ≡ length p) × (length n' ≡ length n) × (length sp' ≡ length sp)) where
+  pub none-bound : (b : List ℕ) → length b ≡ c * WORDS →
+      Carries (tables k' f' e' p' n' a' i' b sp') (record { capacity = c; count = 0; lowest = 0; epoch = epoch; free = o; buckets = bk }) (atEpoch epoch (new c))
+  none-bound b len =
       let z = fits .sized b len in
-      let ks : length k' ≡ c = wiped-keys .size ∙ z .keys-size in
+      let ks : length k' ≡ c = sizes .0 ∙ z .keys-size in
       let is : length i ≡ length k' + length k' = (let q = z .index-size in omega arith) in
       let whole : length a - 0 ≡ c = (let q = z .arena-size in omega arith) in
-      let freed : arena.Holds a' o (from 0 c) = subst (λ (m : ℕ). arena.Holds a' o (from 0 m)) whole (all-free .holds) in
+      let formed : WellFormed (new c) = new-formed c in
       record {
-        carries = record {
-          formed = new-formed c;
-          limit = fits .limit;
-          capacity = refl;
-          sized = record {
-            keys-size = ks;
-            freqs-size = sizes .0 ∙ z .freqs-size;
-            epochs-size = wiped-epochs .size ∙ z .epochs-size;
-            prevs-size = sizes .1 ∙ z .prevs-size;
-            nexts-size = sizes .2 ∙ z .nexts-size;
-            arena-size = all-free .size ∙ z .arena-size;
-            index-size = no-index .size ∙ z .index-size;
-            buckets-size = len;
-            spares-size = sizes .3 ∙ z .spares-size;
-          };
-          count = refl;
-          lowest = refl;
-          epoch = refl;
-          slots = [];
-          lists = no-lists .holds b (let q = z .freqs-size in rw q len);
-          entries = refl;
-          free = freed;
-          index-sound = no-index .sound k' (let q = fits .limit in omega arith) is;
-          indexed = λ x. (λ has. absurd (no-index .none k' is x has), λ q. absurd (omega arith));
+        formed = record { rising = formed .rising; keys = formed .keys; slots = formed .slots };
+        limit = fits .limit;
+        capacity = refl;
+        sized = record {
+          keys-size = ks;
+          freqs-size = sizes .2 ∙ z .freqs-size;
+          epochs-size = sizes .1 ∙ z .epochs-size;
+          prevs-size = sizes .3 ∙ z .prevs-size;
+          nexts-size = sizes .4 ∙ z .nexts-size;
+          arena-size = all-free .size ∙ z .arena-size;
+          index-size = no-index .size ∙ z .index-size;
+          buckets-size = len;
+          spares-size = sizes .5 ∙ z .spares-size;
         };
-        zeros = all-any (Blank k' e') (λ x. (wiped-keys .zero x (omega arith), wiped-epochs .zero x (omega arith))) (from 0 c);
+        count = refl;
+        lowest = refl;
+        epoch = refl;
+        slots = [];
+        lists = no-lists .holds b (let q = z .freqs-size in rw q len);
+        entries = refl;
+        free = subst (λ (m : ℕ). arena.Holds a' o (from 0 m)) whole (all-free .holds);
+        index-sound = no-index .sound k' (let q = fits .limit in omega arith) is;
+        indexed = λ x. (λ has. absurd (no-index .none k' is x has), λ q. absurd (omega arith));
       }

@@ -162,6 +162,20 @@ free-cells t s l h i f =
     (images-all (λ (m : Line). levels.level (m .row .freq) (m .slots)) (λ (m : levels.Level). Without i (m .slots)) (h .lists .lines)
     (rw (h .lists .seen) (unbound-nowhere t s l h i (λ b. absurd (omega arith)))))
 
+-- All that two readings of one ledger have in common: the cells that it determines, and the fields of the state.
+pub record Same (t t' : Tables) (s s' : State) : Type 0 where
+  pub keys : t .keys ≡ t' .keys
+  pub freqs : t .freqs ≡ t' .freqs
+  pub epochs : t .epochs ≡ t' .epochs
+  pub prevs : t .prevs ≡ t' .prevs
+  pub nexts : t .nexts ≡ t' .nexts
+  pub arena : t .arena ≡ t' .arena
+  pub capacity : s .capacity ≡ s' .capacity
+  pub count : s .count ≡ s' .count
+  pub lowest : s .lowest ≡ s' .lowest
+  pub epoch : s .epoch ≡ s' .epoch
+  pub free : s .free ≡ s' .free
+
 module _ (t t' : Tables) (s s' : State) (l : Ledger) (h : Holds t s l) (k : Holds t' s' l) where
   free-alike : (i : ℕ) → In i (l .free) → Alike t t' s s' l h k i
   free-alike i f =
@@ -180,24 +194,10 @@ module _ (t t' : Tables) (s s' : State) (l : Ledger) (h : Holds t s l) (k : Hold
   alike : (i : ℕ) → i < l .capacity → Alike t t' s s' l h k i
   alike i b = ⊎-elim (bound-alike t t' s s' l h k i) (free-alike i) (bound-or-free t t' s s' l h k i b)
 
-  -- The cells that a ledger determines, and the fields of the state.
-  pub record Same : Type 0 where
-    pub keys : t .keys ≡ t' .keys
-    pub freqs : t .freqs ≡ t' .freqs
-    pub epochs : t .epochs ≡ t' .epochs
-    pub prevs : t .prevs ≡ t' .prevs
-    pub nexts : t .nexts ≡ t' .nexts
-    pub arena : t .arena ≡ t' .arena
-    pub capacity : s .capacity ≡ s' .capacity
-    pub count : s .count ≡ s' .count
-    pub lowest : s .lowest ≡ s' .lowest
-    pub epoch : s .epoch ≡ s' .epoch
-    pub free : s .free ≡ s' .free
-
   table-same : (u v : List ℕ) → length u ≡ l .capacity → length v ≡ l .capacity → ((i : ℕ) → i < l .capacity → cells u i ≡ cells v i) → u ≡ v
   table-same u v a b f = ext-getD 0 u v (a ∙ sym b) (λ i c. f i (omega arith))
 
-  pub determined : Same
+  pub determined : Same t t' s s'
   determined =
       let a = h .carries .sized in
       let b = k .carries .sized in

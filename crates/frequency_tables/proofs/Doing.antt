@@ -2,6 +2,7 @@
 -- promise. A call that refuses leaves everything, a call that is done keeps free slots blank.
 use mathlib.Core.Path.{_≡_, refl, sym, ap, _∙_, subst}
 use mathlib.Core.Logic.{_≢_}
+use mathlib.Core.Option.{none}
 use mathlib.Core.List.{List, [], _∷_}
 use Prim.Native.Nat.{ℕ, _≤_}
 use native.Mathlib.Omega.{arith}
@@ -14,7 +15,7 @@ use Rattle.lists.specs.Lists.{All, Without, one, times}
 use Rattle.lists.proofs.Tests.{one-same}
 use Rattle.lists.proofs.Members.{all-both, in-sum, times-without}
 use Rattle.links.specs.Chain.{cells}
-use Rattle.ledger.specs.Ledger.{Ledger, Item, items, lowest, release}
+use Rattle.ledger.specs.Ledger.{Ledger, Item, items, lookup, putAt, release}
 use Rattle.ledger.specs.Buckets.{done, refused, Outcome, insert, touchUpTo, remove, popMin}
 use Rattle.ledger.proofs.Slots.{bound-slot, free-slot}
 use Rattle.ledger.proofs.Refusals.{done-refused}
@@ -45,18 +46,28 @@ pub does-done : (f : Ledger → Outcome) (t : Tables) (s : State) (ns : List ℕ
 does-done f t s ns t' s' h k = record { answers = h; holds = k; leaves = λ b e. done-refused ns b e }
 
 -- slots other than x stay blank
-still-blank : (t t' : Tables) (x : ℕ) (xs : List ℕ) → ((y : ℕ) → y ≢ x → SameCells (t .keys) (t .epochs) (t' .keys) (t' .epochs) y) → Without x xs →
+pub still-blank : (t t' : Tables) (x : ℕ) (xs : List ℕ) → ((y : ℕ) → y ≢ x → SameCells (t .keys) (t .epochs) (t' .keys) (t' .epochs) y) → Without x xs →
     All (Blank (t .keys) (t .epochs)) xs → All (Blank (t' .keys) (t' .epochs)) xs
 still-blank t t' x xs same w z =
     all-both (λ y. y ≢ x) (Blank (t .keys) (t .epochs)) (Blank (t' .keys) (t' .epochs)) (λ y d b. (same y d .0 ∙ b .0, same y d .1 ∙ b .1)) xs w z
 
 -- a free order that does not begin with NONE begins with its first slot
-free-some : (t : Tables) (s : State) (l : Ledger) → Carries t s l → s .free .first ≢ NONE → (rest : List ℕ) × (l .free ≡ s .free .first ∷ rest)
+pub free-some : (t : Tables) (s : State) (l : Ledger) → Carries t s l → s .free .first ≢ NONE → (rest : List ℕ) × (l .free ≡ s .free .first ∷ rest)
 free-some t s l h d = go (l .free) (h .free)
   where
     go : (free : List ℕ) → arena.Holds (t .arena) (s .free) free → (rest : List ℕ) × (free ≡ s .free .first ∷ rest)
     go [] w = absurd (d (first-none (t .arena) (s .free) [] w .0 refl))
     go (x ∷ rest) w = (rest, λ i. sym (first-slot (t .arena) (s .free) x rest w .0) i ∷ rest)
+
+-- what the tables hold after a key is bound
+pub bind-holds : (t : Tables) (s : State) (key f : ℕ) (t' : Tables) (r : Placed) → Binds t s key f t' r → (l : Ledger) (h : Holds t s l) (rest : List ℕ) →
+    lookup key l ≡ none → l .free ≡ s .free .first ∷ rest → 1 ≤ f → f ≤ CEILING → Holds t' (r .state) (putAt f key (s .free .first) rest l)
+bind-holds t s key f t' r binds l h rest absent free-is lo hi =
+    let w = free-slot l (h .carries .formed) (s .free .first) rest free-is .1 in
+    record {
+      carries = binds .carries l rest (h .carries) absent free-is lo hi;
+      zeros = still-blank t t' (s .free .first) rest (binds .others) (times-without (s .free .first) rest w) ((rw free-is at (h .zeros)) .1);
+    }
 
 -- `insert`
 
@@ -95,11 +106,7 @@ module _ (t : Tables) (s : State) (key : ℕ) where
         (λ l h.
         let f = free-some t s l (h .carries) d in
         let e = found-nothing t s l (h .carries) key absent in
-        let w = free-slot l (h .carries .formed) (s .free .first) (f .0) (f .1) .1 in
-        rw (e, f .1) (record {
-          carries = binds .carries l (f .0) (h .carries) e (f .1) (omega arith) (omega arith);
-          zeros = still-blank t t' (s .free .first) (f .0) (binds .others) (times-without (s .free .first) (f .0) w) ((rw (f .1) at (h .zeros)) .1);
-        }))
+        rw (e, f .1) (bind-holds t s key 1 t' r binds l h (f .0) e (f .1) (omega arith) (omega arith)))
 
 -- A bound key
 
@@ -137,7 +144,7 @@ touch-done k f e p n a i b sp s cap key x fits at-x f' e' p' n' b' sp' r hits =
 -- `remove` and `pop_min`
 
 -- what the tables hold after an item is let go
-let-go : (t : Tables) (s : State) (x : ℕ) (t' : Tables) (s' : State) → LetsGo t s x t' s' → (l : Ledger) (h : Holds t s l) (y : Item) → Stands t s l (h .carries) y x →
+pub let-go : (t : Tables) (s : State) (x : ℕ) (t' : Tables) (s' : State) → LetsGo t s x t' s' → (l : Ledger) (h : Holds t s l) (y : Item) → Stands t s l (h .carries) y x →
     Holds t' s' (release y l)
 let-go t s x t' s' gone l h y st =
     let out = bound-slot l (h .carries .formed) y (st .inside) .1 in

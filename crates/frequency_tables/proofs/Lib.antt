@@ -5,7 +5,10 @@ pub mod Asked
 pub mod Read
 pub mod Found
 pub mod Doing
+pub mod Redated
 pub mod Determined
 pub mod Clearing
 pub mod Agree
 pub mod Promises
+pub mod Public
+pub mod Makings

@@ -61,7 +61,7 @@ members-append (u ∷ us) vs x =
 
 module _ (t : Tables) (s : State) (l : Ledger) (h : Carries t s l) where
   -- a slot that is bound has a place; one that is not stands nowhere
-  times-bound : (x : ℕ) → times x (members (h .slots)) ≡ slotted x (items (l .levels))
+  pub times-bound : (x : ℕ) → times x (members (h .slots)) ≡ slotted x (items (l .levels))
   times-bound x = sym (ap (λ ls. slotted x (items ls)) (h .entries) ∙ slotted-members (t .keys) (t .epochs) x (h .slots))
 
   pub bound-place : (x : ℕ) → BoundSlot l x → Place (h .slots) x

@@ -1,18 +1,21 @@
 -- How a public call keeps its promise: by what the check has answered. DONE means that the tables hold a ledger, and the call on sound
 -- tables does the rest; every other answer is the refusal itself.
 use mathlib.Core.Path.{_≡_, refl, sym, _∙_}
-use mathlib.Core.Logic.{_≢_}
+use mathlib.Core.Bool.{Bool, true, false}
+use mathlib.Core.Logic.{_↔_}
 use Prim.Native.Nat.{ℕ}
 use native.Mathlib.Omega.{arith}
 use Rattle.numbers.specs.declared.Answer.{Answer}
-use Rattle.numbers.specs.declared.Answer.the-variants.{Done, Corrupt, Short, Capacity}
+use Rattle.numbers.specs.declared.Answer.the-variants.{Done}
+use Rattle.lists.proofs.Tests.{said-no}
 use Rattle.ledger.specs.Buckets.{Reply, refused}
-use Rattle.frequency_tables.specs.Promise.{Lent, Reading, over, short, corrupt, ledger, Reads, Does, By, Promised, whyOf, Checks}
+use Rattle.frequency_tables.specs.Promise.{Lent, Reading, over, short, corrupt, ledger, Reads, Does, Promised, whyOf, Checks}
 
-module _ (k : Lent) (t : k .Tables) (s : k .State) (a : Answer) (c : Checks k t s a) where
-  -- the check said DONE: the tables hold a ledger
-  pub sound-done : a ≡ Done → (l : k .Ledger) × k .Holds t s l
-  sound-done e = go (c .0) (c .1) (sym (c .2) ∙ e)
+-- `done` tells whether the check has said DONE
+module _ (k : Lent) (t : k .Tables) (s : k .State) (a : Answer) (done : Bool) (c : Checks k t s a) (told : (done ≡ true) ↔ (a ≡ Done)) where
+  -- it did: the tables hold a ledger
+  pub sound-done : done ≡ true → (l : k .Ledger) × k .Holds t s l
+  sound-done e = go (c .0) (c .1) (sym (c .2) ∙ told .0 e)
     where
       go : (v : Reading k) → Reads k t s v → whyOf k v ≡ Done → (l : k .Ledger) × k .Holds t s l
       go over r q = let z : _≡_ {A = ℕ} 0 1 = cc in absurd (omega arith)
@@ -21,9 +24,9 @@ module _ (k : Lent) (t : k .Tables) (s : k .State) (a : Answer) (c : Checks k t 
       go (ledger l) r q = (l, r .2)
 
   -- and a call that does what f does on every ledger that the tables hold keeps its promise
-  pub promised-done : (f : k .Ledger → Reply × k .Ledger) (r : Reply) (t' : k .Tables) (s' : k .State) → a ≡ Done →
+  pub promised-done : (f : k .Ledger → Reply × k .Ledger) (r : Reply) (t' : k .Tables) (s' : k .State) → done ≡ true →
       ((l : k .Ledger) → k .Holds t s l → Does k f t s l r t' s') → Promised k f t s r t' s'
-  promised-done f r t' s' e d = go (c .0) (c .1) (sym (c .2) ∙ e)
+  promised-done f r t' s' e d = go (c .0) (c .1) (sym (c .2) ∙ told .0 e)
     where
       go : (v : Reading k) → Reads k t s v → whyOf k v ≡ Done → Promised k f t s r t' s'
       go over w q = let z : _≡_ {A = ℕ} 0 1 = cc in absurd (omega arith)
@@ -31,12 +34,12 @@ module _ (k : Lent) (t : k .Tables) (s : k .State) (a : Answer) (c : Checks k t 
       go corrupt w q = let z : _≡_ {A = ℕ} 0 1 = cc in absurd (omega arith)
       go (ledger l) w q = (ledger l, w, d l (w .2))
 
-  -- the check said something else: that is the refusal, and all stays
-  pub promised-refused : (f : k .Ledger → Reply × k .Ledger) (r : Reply) → a ≢ Done → r ≡ refused a → Promised k f t s r t s
-  promised-refused f r d e = go (c .0) (c .1) (c .2)
+  -- it said something else: that is the refusal, and all stays
+  pub promised-refused : (f : k .Ledger → Reply × k .Ledger) (r : Reply) → done ≡ false → r ≡ refused a → Promised k f t s r t s
+  promised-refused f r e told-so = go (c .0) (c .1) (c .2)
     where
       go : (v : Reading k) → Reads k t s v → a ≡ whyOf k v → Promised k f t s r t s
-      go over w q = (over, w, record { answer = rw (sym q) e; tables = refl; state = refl })
-      go short w q = (short, w, record { answer = rw (sym q) e; tables = refl; state = refl })
-      go corrupt w q = (corrupt, w, record { answer = rw (sym q) e; tables = refl; state = refl })
-      go (ledger l) w q = absurd (d q)
+      go over w q = (over, w, record { answer = rw (sym q) told-so; tables = refl; state = refl })
+      go short w q = (short, w, record { answer = rw (sym q) told-so; tables = refl; state = refl })
+      go corrupt w q = (corrupt, w, record { answer = rw (sym q) told-so; tables = refl; state = refl })
+      go (ledger l) w q = absurd (said-no _ told e q)

@@ -8,13 +8,13 @@ use Rattle.numbers.specs.declared.Answer.the-variants.{Done, Corrupt, Short, Ca
 use Rattle.ledger.specs.Buckets.{Reply, refused}
 
 -- a kind of lent tables: the tables, the state, the ledgers they hold; the capacity that the state asks for, whether the tables have
--- the lengths that it calls for, and the ledger that they hold
+-- the lengths that a capacity calls for, and the ledger that they hold
 pub record Lent : Type 1 where
   pub Tables : Type 0
   pub State : Type 0
   pub Ledger : Type 0
   pub capacity : State → ℕ
-  pub Fits : Tables → State → Type 0
+  pub Fits : Tables → ℕ → Type 0
   pub Holds : Tables → State → Ledger → Type 0
 
 module _ (k : Lent) where
@@ -27,9 +27,9 @@ module _ (k : Lent) where
 
   abbrev pub Reads : k .Tables → k .State → Reading → Type 0
   Reads t s over = LIMIT < k .capacity s
-  Reads t s short = (k .capacity s ≤ LIMIT) × (k .Fits t s → ⊥)
-  Reads t s corrupt = (k .capacity s ≤ LIMIT) × k .Fits t s × ((l : k .Ledger) → k .Holds t s l → ⊥)
-  Reads t s (ledger l) = (k .capacity s ≤ LIMIT) × k .Fits t s × k .Holds t s l
+  Reads t s short = (k .capacity s ≤ LIMIT) × (k .Fits t (k .capacity s) → ⊥)
+  Reads t s corrupt = (k .capacity s ≤ LIMIT) × k .Fits t (k .capacity s) × ((l : k .Ledger) → k .Holds t s l → ⊥)
+  Reads t s (ledger l) = (k .capacity s ≤ LIMIT) × k .Fits t (k .capacity s) × k .Holds t s l
 
   -- a refusal: all tables and the state stay as they were
   pub record Refuses (t : k .Tables) (s : k .State) (r : Reply) (t' : k .Tables) (s' : k .State) (why : Answer) : Type 0 where

@@ -1,6 +1,7 @@
 // What a caller lends for the frequency buckets: nine tables, and a small state that is handed in and handed back.
 ghost use mathlib.Core.Path.{_≡_};
 ghost use Rattle.frequency_tables.specs.Calls.{recounted, dated, nextEpoch};
+ghost use Rattle.frequency_tables.specs.Lent.{nothing};
 use bucket_table::Buckets;
 use numbers::Frequency;
 use numbers::Slot;
@@ -32,6 +33,27 @@ pub struct Hit {
 }
 
 impl State {
+    // No tables: what stands beside a refusal to make some. Every number in it is 0.
+    pub fn nothing() -> State
+        ensures { λ r. ⌜ r ≡ nothing ⌝ }
+    {
+        let order = Order { first: 0, last: 0 };
+        let spare = Order { first: 0, last: 0 };
+        let buckets = Buckets {
+            bottom: 0,
+            top: 0,
+            spare: spare,
+        };
+        State {
+            capacity: 0,
+            count: 0,
+            lowest: 0,
+            epoch: 0,
+            free: order,
+            buckets: buckets,
+        }
+    }
+
     // The state after a key was bound, moved or let go.
     pub fn recounted(
         mut self,

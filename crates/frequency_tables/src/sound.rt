@@ -143,7 +143,7 @@ pub fn let_go(
 }
 
 // Sets the cells of a table to 0, from one on.
-fn wipe(t: &mut [u64], from: u64)
+pub fn wipe(t: &mut [u64], from: u64)
     ensures { λ _. ⌜ Wiped (now (t .entry)) from (now (t .exit)) ⌝ }
 {
     let mut i = from as usize;

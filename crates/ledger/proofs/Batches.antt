@@ -10,7 +10,7 @@ use Rattle.ledger.specs.Calls.{BucketCall, calls, replies, afterCalls}
 use Rattle.ledger.specs.Calls
 use Rattle.ledger.specs.Cache.{Cache, CacheFormed, Insertion, fresh, freshOut, old, full, newlyBound, Lookup, hit, miss, wasHit, lookupReply, cacheInsert, cacheGet, cacheRemove, cacheInsertBatch, keyBatch, cacheRemoveBatch, cacheTouchBatch}
 use Rattle.ledger.specs.History.{CacheCall, Insert, Get, Remove, Event, inserted, does, log, afterAll, says, bindings}
-use Rattle.ledger.specs.Refusals.{eventReply}
+use Rattle.ledger.specs.CacheCalls.{eventReply}
 use Rattle.ledger.proofs.CacheKept.{run-formed}
 
 -- The buckets

@@ -13,7 +13,8 @@ use Rattle.ledger.specs.Ledger.{Item, lookup, ifFound, lowest, size}
 use Rattle.ledger.specs.Buckets.{refused}
 use Rattle.ledger.specs.Cache.{Cache, CacheFormed, insertReply, Lookup, hit, miss, lookupReply, Least, least, nothing, leastReply, insertFull, insertNew, insertAt, cacheInsert, cacheGet, cachePeek, cacheRemove, cacheReset, cachePeekLfu, cacheEvict}
 use Rattle.ledger.specs.History.{CacheCall, Insert, Get, Peek, Remove, Reset, PeekLfu, Evict, Clear, Len, does}
-use Rattle.ledger.specs.Refusals.{Unbound, eventReply, CacheRefused, gets, peeks, removes, resets, inserts, peeksLfu, evicts}
+use Rattle.ledger.specs.CacheCalls.{eventReply}
+use Rattle.ledger.specs.Refusals.{Unbound, CacheRefused, gets, peeks, removes, resets, inserts, peeksLfu, evicts}
 use Rattle.ledger.proofs.Rising.{lowest-none, lowest-some}
 use Rattle.ledger.proofs.Slots.{size-and-free}
 use Rattle.ledger.proofs.Kept.{by-found}
@@ -51,7 +52,7 @@ module _ (c : Cache) (w : CacheFormed c) where
   new-why : (k v : ℕ) (free : List ℕ) (a : Answer) → c .table .free ≡ free → insertReply (insertNew free k v c .0) ≡ refused a →
       (c .table .capacity ≡ 0) × (Full ≡ a) × (insertNew free k v c .1 ≡ c)
   new-why k v [] a f h = full-why k v (lowest (c .table .levels)) a refl f h
-  new-why k v (s ∷ rest) a f h = done-refused [] a h
+  new-why k v (s ∷ rest) a f h = done-refused _ a h
 
   at-why : (k v : ℕ) (o : Option Item) (a : Answer) → insertReply (insertAt o k v c .0) ≡ refused a →
       (o ≡ none) × (c .table .capacity ≡ 0) × (Full ≡ a) × (insertAt o k v c .1 ≡ c)

@@ -10,9 +10,9 @@ use lib.ListN.{length}
 use Rattle.lists.specs.Lists.{All, from, sum, one, times}
 use Rattle.lists.proofs.Tests.{if-eq, if-lt, if-less, if-not-less}
 use Rattle.lists.proofs.Members.{all-map, all-of, all-append, sum-append, length-sum}
-use Rattle.numbers.specs.Frequency.{CEILING, halved}
+use Rattle.numbers.specs.Frequency.{halved}
 use Rattle.ledger.specs.Ledger.{Entry, Level, Ledger, Item, item, items, link, Rising, keyed, slotted, WellFormed}
-use Rattle.ledger.specs.Rebuild.{inSlot, bySlot, refill, rebuild, byLowest, decayHalve, rebased, rebaseMinFreq}
+use Rattle.ledger.specs.Rebuild.{inSlot, bySlot, refill, LevelFits, rebuild, byLowest, decayHalve, rebased, rebaseMinFreq}
 use Rattle.ledger.proofs.Items.{items-link, sum-place}
 use Rattle.ledger.proofs.Rising.{rising-link, Within, all-within}
 use Rattle.ledger.proofs.Slots.{below, below-not, below-le, times-from, bound-slot}
@@ -84,9 +84,6 @@ few xs a (suc n) h =
     omega arith
 
 -- The refilling
-
-abbrev pub LevelFits : (ℕ → ℕ) → Item → Type 0
-LevelFits g x = (1 ≤ g (x .frequency)) × (g (x .frequency) ≤ CEILING)
 
 refill-rising : (g : ℕ → ℕ) (now s : ℕ) (xs : List Item) (ls : List Level) → All (LevelFits g) xs → Rising 0 ls → Rising 0 (refill g now s xs ls)
 refill-rising g now s [] ls h r = r
@@ -161,7 +158,7 @@ module _ (g : ℕ → ℕ) (l : Ledger) (w : WellFormed l) (fits : All (LevelFit
 
 -- The two calls
 
-halved-fits : (l : Ledger) → WellFormed l → All (LevelFits halved) (items (l .levels))
+pub halved-fits : (l : Ledger) → WellFormed l → All (LevelFits halved) (items (l .levels))
 halved-fits l w =
     all-map (Within 0) (LevelFits halved) (λ x h. let p = h .0 in let q = h .1 in (omega arith, omega arith)) (items (l .levels))
     (all-within 0 (l .levels) (w .rising))
@@ -174,7 +171,7 @@ pub decayHalve-formed : (l : Ledger) → WellFormed l → WellFormed (decayHalve
 unfolding decayHalve
 decayHalve-formed l w = halve-by l w (l .levels)
 
-rebased-fits : (l : Ledger) (m : Level) (ms : List Level) → l .levels ≡ m ∷ ms → WellFormed l → All (LevelFits (rebased (m .frequency))) (items (l .levels))
+pub rebased-fits : (l : Ledger) (m : Level) (ms : List Level) → l .levels ≡ m ∷ ms → WellFormed l → All (LevelFits (rebased (m .frequency))) (items (l .levels))
 rebased-fits l m ms e w =
     let r : Rising 0 (m ∷ ms) = subst (Rising 0) e (w .rising) in
     let r0 : 0 < m .frequency = r .0 in

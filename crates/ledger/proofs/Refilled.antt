@@ -10,9 +10,9 @@ use Rattle.lists.specs.Lists.{All, from, one}
 use Rattle.lists.proofs.Tests.{one-same}
 use Rattle.lists.proofs.Members.{all-left, all-mid, sum-append}
 use Rattle.ledger.specs.Ledger.{Level, Ledger, Item, items, lookup, link, putAt, keyed, WellFormed}
-use Rattle.ledger.specs.Rebuild.{inSlot, bySlot, refill, rebuild}
+use Rattle.ledger.specs.Rebuild.{inSlot, bySlot, refill, LevelFits, rebuild}
 use Rattle.ledger.proofs.Items.{none-found}
-use Rattle.ledger.proofs.Rebuilt.{LevelFits, gathered, gathered-fits, gathered-few, gathered-keyed, refill-sum}
+use Rattle.ledger.proofs.Rebuilt.{gathered, gathered-fits, gathered-few, gathered-keyed, refill-sum}
 
 -- Gathering
 

@@ -70,7 +70,7 @@ in-listOf a (l ∷ ls) r x i =
 
 -- A step finds its place
 
-inSlot-none : (s : ℕ) (xs : List Item) → slotted s xs ≡ 0 → inSlot s xs ≡ []
+pub inSlot-none : (s : ℕ) (xs : List Item) → slotted s xs ≡ 0 → inSlot s xs ≡ []
 inSlot-none s [] h = refl
 inSlot-none s (x ∷ xs) h =
     if-eq (λ z. z ≡ []) (x .slot) s
@@ -78,7 +78,7 @@ inSlot-none s (x ∷ xs) h =
     (λ d. inSlot-none s xs (omega arith))
 
 -- an item whose slot stands once is all that the slot has
-inSlot-one : (xs : List Item) (x : Item) → In x xs → slotted (x .slot) xs ≤ 1 → inSlot (x .slot) xs ≡ x ∷ []
+pub inSlot-one : (xs : List Item) (x : Item) → In x xs → slotted (x .slot) xs ≤ 1 → inSlot (x .slot) xs ≡ x ∷ []
 inSlot-one (y ∷ ys) x (inl e) h =
     let s : y .slot ≡ x .slot = ap (λ (z : Item). z .slot) e in
     if-same (y .slot) (x .slot) (y ∷ inSlot (x .slot) ys) (inSlot (x .slot) ys) s

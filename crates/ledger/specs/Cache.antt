@@ -40,11 +40,11 @@ pub data Least : Type 0 where
   least : (key value : ℕ) → Least
   nothing : Least
 
--- document 01's answer and numbers for each
+-- document 01's answer and numbers for each; an insert is DONE in three ways, and a first number, which is ours, tells them apart
 abbrev pub insertReply : Insertion → Reply
-insertReply fresh = done []
-insertReply (freshOut k) = done (k ∷ [])
-insertReply (old v) = done (v ∷ [])
+insertReply fresh = done (0 ∷ [])
+insertReply (freshOut k) = done (1 ∷ k ∷ [])
+insertReply (old v) = done (2 ∷ v ∷ [])
 insertReply full = refused Full
 
 abbrev pub lookupReply : Lookup → Reply

@@ -5,6 +5,7 @@ pub mod Walk
 pub mod Calls
 pub mod Cache
 pub mod History
+pub mod CacheCalls
 pub mod Refusals
 pub mod Demand3
 pub mod Cases

@@ -1,11 +1,11 @@
 -- `decay_halve` and `rebase_min_freq`, by the rebuild rule of document 01.
 use mathlib.Core.Bool.{cond}
 use mathlib.Core.List.{List, [], _∷_, _++_}
-use Prim.Native.Nat.{ℕ, _+_, _-_}
+use Prim.Native.Nat.{ℕ, _+_, _-_, _≤_}
 use lib.ListN.{length}
 use lib.Dec.{eqb}
 use Rattle.lists.specs.Lists.{from}
-use Rattle.numbers.specs.Frequency.{FIRST, halved}
+use Rattle.numbers.specs.Frequency.{FIRST, CEILING, halved}
 use Rattle.ledger.specs.Ledger.{Level, Ledger, Item, items, link}
 use Rattle.ledger.specs.Buckets.{Outcome, done}
 
@@ -24,6 +24,10 @@ abbrev pub refill : (ℕ → ℕ) → ℕ → ℕ → List Item → List Level �
 refill g now s [] ls = ls
 refill g now s (x ∷ xs) ls =
     refill g now (s + 1) xs (link (g (x .frequency)) (record { key = x .key; slot = s; epoch = now }) ls)
+
+-- g makes a level of an item's frequency
+abbrev pub LevelFits : (ℕ → ℕ) → Item → Type 0
+LevelFits g x = (1 ≤ g (x .frequency)) × (g (x .frequency) ≤ CEILING)
 
 -- Bound keys are taken in ascending old slot order, given slots 0, 1, 2 on, the current epoch, and put at the head of their
 -- new list; g says which. The remaining slots are free in ascending order.

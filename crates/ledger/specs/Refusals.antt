@@ -1,15 +1,13 @@
 -- The "exactly when" column of document 01's table, for the calls of the buckets and of the cache. That each call is refused
 -- exactly then is `refused-exactly` and `cache-refused-exactly` of proofs/Refusals.antt.
 use mathlib.Core.Path.{_≡_}
-use mathlib.Core.List.{[], _∷_}
 use Prim.Native.Nat.{ℕ, _≤_}
 use Rattle.numbers.specs.declared.Answer.{Answer}
 use Rattle.numbers.specs.declared.Answer.the-variants.{Absent, Present, Full, Empty}
 use Rattle.ledger.specs.Ledger.{Ledger, items, size, keyed, slotted}
-use Rattle.ledger.specs.Buckets.{Reply, done}
 use Rattle.ledger.specs.Calls.{PeekMin, MinFreq, Frequency, EntryEpoch, WalkStep, BucketCall, Ask, Insert, Touch, TouchCapped, Remove, PopMin, SetEntryEpoch}
-use Rattle.ledger.specs.Cache.{Cache, insertReply, lookupReply, leastReply}
-use Rattle.ledger.specs.History.{CacheCall, Event, inserted, got, peeked, removed, reset, peekedLfu, evicted, cleared, measured}
+use Rattle.ledger.specs.Cache.{Cache}
+use Rattle.ledger.specs.History.{CacheCall}
 use Rattle.ledger.specs.History
 
 abbrev pub Bound : ℕ → Ledger → Type 0
@@ -34,18 +32,6 @@ pub data Refused (l : Ledger) : BucketCall → Answer → Type 0 where
   pops : size l ≡ 0 → Refused l PopMin Empty
   peeks : size l ≡ 0 → Refused l (Ask PeekMin) Empty
   asksLowest : size l ≡ 0 → Refused l (Ask MinFreq) Empty
-
--- document 01's answer to a call that was made
-abbrev pub eventReply : Event → Reply
-eventReply (inserted k v a) = insertReply a
-eventReply (got k a) = lookupReply a
-eventReply (peeked k a) = lookupReply a
-eventReply (removed k a) = lookupReply a
-eventReply (reset k a) = lookupReply a
-eventReply (peekedLfu a) = leastReply a
-eventReply (evicted a) = leastReply a
-eventReply cleared = done []
-eventReply (measured n) = done (n ∷ [])
 
 pub data CacheRefused (c : Cache) : CacheCall → Answer → Type 0 where
   -- the key is not bound

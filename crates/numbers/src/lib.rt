@@ -1,7 +1,10 @@
 // The three kinds of number that must not be mixed, the levels of a frequency, and the answers of document 01's table.
 ghost use mathlib.Core.Path.{_≡_};
+ghost use mathlib.Core.Bool.{true};
+ghost use mathlib.Core.Logic.{_↔_};
 ghost use Rattle.numbers.specs.Frequency.{raised, halved, capOf, CEILING};
 ghost use Rattle.numbers.specs.Answer.{numberOf};
+ghost use Rattle.numbers.specs.declared.Answer.the-variants.{Done};
 
 // The most slots that a table may have.
 pub const LIMIT: u64 = 4096;
@@ -52,14 +55,21 @@ impl Frequency {
         Frequency(half)
     }
 
-    // One level up while below the cap; a level at or above the cap stays. A cap of 0 is read as 1.
+    // The level as a cap: 0 is read as 1.
+    pub fn as_cap(self) -> Frequency
+        ensures { λ r. ⌜ r .0 ≡ capOf (self .0) ⌝ }
+    {
+        if self.0 < 1 {
+            return Frequency::FIRST;
+        }
+        self
+    }
+
+    // One level up while below the cap; a level at or above the cap stays.
     pub fn capped(self, cap: Frequency) -> Frequency
         ensures { λ r. ⌜ r .0 ≡ raised (capOf (cap .0)) (self .0) ⌝ }
     {
-        if cap.0 < 1 {
-            return self.raised(Frequency::FIRST);
-        }
-        self.raised(cap)
+        self.raised(cap.as_cap())
     }
 }
 
@@ -90,5 +100,12 @@ impl Answer {
             Answer::Short => 6,
             Answer::Capacity => 7,
         }
+    }
+
+    // Whether the call did its work.
+    pub fn is_done(self) -> bool
+        ensures { λ r. ⌜ (r ≡ true) ↔ (self ≡ Done) ⌝ }
+    {
+        self.number() == 0
     }
 }

@@ -1,62 +1,34 @@
--- One test for each reading, in the order of document 01.
+-- The lengths first; only tables that fit are looked into.
 use mathlib.Core.Path.{refl}
 use borrow.Author.Needs.{needs}
 use borrow.Author.Tests.{not-true, not-false}
-use Rattle.lists.proofs.Tests.{said-no}
-use Rattle.frequency_tables.specs.Promise.{over, short, corrupt, ledger}
-use Rattle.frequency_check.proofs.Steps.{fitting, fits-slots, fits-parts}
+use Rattle.frequency_tables.specs.Lent.{buckets}
+use Rattle.frequency_tables.proofs.Makings.{misfits}
+use Rattle.frequency_check.proofs.Sizes as sizes
 use Rattle.frequency_check.proofs.refusal.Statement.{statement}
 use Rattle.frequency_check.proofs.refusal.Tie as tie
 
-returns : tie.Need-returns
-returns c = (over, c .if1 .taken, refl)
+misfit-requires : tie.Need-misfit-requires
+misfit-requires c κs = search needs
 
-slot-tables-fit-requires : tie.Need-slot-tables-fit-requires
-slot-tables-fit-requires c κs = search needs
+is-done-requires : tie.Need-is-done-requires
+is-done-requires c κs = search needs
+
+returns : tie.Need-returns
+returns c = misfits buckets _ (c .before .before .before .before .before .before .before .before .before .before .before .before .args .state) _ _ (c .before .before .misfit .ensures) (c .before .is-done .ensures) (not-true _ (c .if1 .taken))
+
+is-sound-requires : tie.Need-is-sound-requires
+is-sound-requires c κs = sizes.fits _ (c .before .before .before .before .before .before .before .before .before .before .before .before .args .state) _ _ (c .before .before .misfit .ensures) (c .before .is-done .ensures) (not-false _ (c .if1 .left))
 
 returns-2 : tie.Need-returns-2
 returns-2 c =
-    (short, (c .before .before .if1 .left, λ h. said-no _ (c .before .slot-tables-fit .ensures) (not-true _ (c .if2 .taken)) (fits-slots _ _ h)), refl)
-
-part-tables-fit-requires : tie.Need-part-tables-fit-requires
-part-tables-fit-requires c κs = search needs
+    let fit = sizes.fits _ (c .before .before .before .before .before .before .before .before .before .before .before .before .before .before .args .state) _ _ (c .before .before .before .before .misfit .ensures) (c .before .before .before .is-done .ensures) (not-false _ (c .before .before .if1 .left)) in
+    sizes.unsound _ _ fit _ (c .before .is-sound .ensures) (not-true _ (c .if2 .taken)) _ refl
 
 returns-3 : tie.Need-returns-3
 returns-3 c =
-    (short, (c .before .before .before .before .if1 .left, λ h. said-no _ (c .before .part-tables-fit .ensures) (not-true _ (c .if3 .taken)) (fits-parts _ _ h)), refl)
-
-is-sound-requires : tie.Need-is-sound-requires
-is-sound-requires c κs = record {
-  limit = c .before .before .before .before .if1 .left;
-  sized =
-      fitting _ _ _ _ _ _ _ _ _ _ (c .before .before .before .slot-tables-fit .ensures .0 (not-false _ (c .before .before .if2 .left)))
-      (c .before .part-tables-fit .ensures .0 (not-false _ (c .if3 .left)));
-}
-
-returns-4 : tie.Need-returns-4
-returns-4 c =
-    let fits =
-    fitting _ _ _ _ _ _ _ _ _ _ (c .before .before .before .before .before .slot-tables-fit .ensures .0 (not-false _ (c .before .before .before .before .if2 .left)))
-    (c .before .before .before .part-tables-fit .ensures .0 (not-false _ (c .before .before .if3 .left))) in
-    (corrupt, (c .before .before .before .before .before .before .if1 .left, fits, λ l h. said-no _ (c .before .is-sound .ensures) (not-true _ (c .if4 .taken)) (l, h)), refl)
-
-returns-5 : tie.Need-returns-5
-returns-5 c =
-    let fits =
-    fitting _ _ _ _ _ _ _ _ _ _ (c .before .before .before .before .before .slot-tables-fit .ensures .0 (not-false _ (c .before .before .before .before .if2 .left)))
-    (c .before .before .before .part-tables-fit .ensures .0 (not-false _ (c .before .before .if3 .left))) in
-    let h = c .before .is-sound .ensures .0 (not-false _ (c .if4 .left)) in
-    (ledger (h .0), (c .before .before .before .before .before .before .if1 .left, fits, h .1), refl)
+    let fit = sizes.fits _ (c .before .before .before .before .before .before .before .before .before .before .before .before .before .before .args .state) _ _ (c .before .before .before .before .misfit .ensures) (c .before .before .before .is-done .ensures) (not-false _ (c .before .before .if1 .left)) in
+    sizes.holds _ _ fit _ (c .before .is-sound .ensures) (not-false _ (c .if2 .left)) _ refl
 
 pub refusal-spec : {M : Type 1} → statement M
-refusal-spec =
-    tie.close
-    (tie.spec
-    returns
-    slot-tables-fit-requires
-    returns-2
-    part-tables-fit-requires
-    returns-3
-    is-sound-requires
-    returns-4
-    returns-5)
+refusal-spec = tie.close (tie.spec misfit-requires is-done-requires returns is-sound-requires returns-2 returns-3)

@@ -1,0 +1,4 @@
+pub mod Change
+pub mod Gather
+pub mod Refill
+pub mod Calls

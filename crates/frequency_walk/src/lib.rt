@@ -1,0 +1,42 @@
+// The walk of a frequency: its keys, head first. Here is what a walk answers, and the step over the links alone, which takes any table;
+// the walk over sound tables stands in `sound`.
+ghost use Rattle.frequency_walk.specs.Walks.{Leads};
+use numbers::Answer;
+use numbers::Frequency;
+use numbers::Key;
+use numbers::NONE;
+use numbers::Slot;
+
+pub mod sound;
+
+// Where a walk stands: at a slot, with its key, frequency and last epoch; past the last slot; or why it stands nowhere.
+pub enum Step {
+    Here(Slot, Key, Frequency, u64),
+    NoMore,
+    Refused(Answer),
+}
+
+// Where a step over the links leads.
+pub enum After {
+    At(Slot),
+    NoMore,
+    Absent,
+}
+
+// The slot after one. A slot out of range, or one that is marked free, has none.
+pub fn next(nexts: &[u64], slot: Slot) -> After
+    ensures { λ r. ⌜ Leads (now (nexts .entry)) (slot .0) r ⌝ }
+{
+    if levels::is_free(nexts, slot) {
+        return After::Absent;
+    }
+    let s = slot.0 as usize;
+    if s < nexts.len() {
+        let after = nexts[s];
+        if after == NONE {
+            return After::NoMore;
+        }
+        return After::At(Slot(after));
+    }
+    After::Absent
+}
