@@ -1,0 +1,87 @@
+-- Checked, then done on sound tables; or refused by the check, with nothing changed.
+use mathlib.Core.Path.{refl}
+use borrow.Author.Needs.{needs}
+use Rattle.ledger.specs.Calls.{TouchCapped}
+use Rattle.frequency_buckets.proofs.Capped.{capped}
+use Rattle.frequency_tables.proofs.Public as public
+use Rattle.frequency_buckets.proofs.touch_capped.Statement.{statement}
+use Rattle.frequency_buckets.proofs.touch_capped.Tie as tie
+
+refusal-requires : tie.Need-refusal-requires
+refusal-requires c κs = search needs
+
+is-done-requires : tie.Need-is-done-requires
+is-done-requires c κs = search needs
+
+as-cap-requires : tie.Need-as-cap-requires
+as-cap-requires c κs = search needs
+
+touch-requires : tie.Need-touch-requires
+touch-requires c κs = (_, public.checked _ _ _ _ (c .before .before .before .before .before .before .before .before .before .refusal .ensures) (c .before .before .before .before .before .before .before .before .is-done .ensures) (c .before .before .before .before .before .before .before .if1 .taken))
+
+same-length : tie.Need-same-length
+same-length c = c .before .before .before .before .before .before .before .before .before .before .before .before .touch .kept .1 .0
+
+same-length-2 : tie.Need-same-length-2
+same-length-2 c = c .before .before .before .before .before .before .before .before .before .before .before .before .touch .kept .1 .1 .0
+
+same-length-3 : tie.Need-same-length-3
+same-length-3 c = c .before .before .before .before .before .before .before .before .before .before .before .before .touch .kept .1 .1 .1 .0
+
+same-length-4 : tie.Need-same-length-4
+same-length-4 c = c .before .before .before .before .before .before .before .before .before .before .before .before .touch .kept .1 .1 .1 .1 .0
+
+same-length-5 : tie.Need-same-length-5
+same-length-5 c = c .before .before .before .before .before .before .before .before .before .before .before .before .touch .kept .1 .1 .1 .1 .1 .1 .0
+
+same-length-6 : tie.Need-same-length-6
+same-length-6 c = c .before .before .before .before .before .before .before .before .before .before .before .before .touch .kept .1 .1 .1 .1 .1 .1 .1 .0
+
+returns : tie.Need-returns
+returns c =
+    public.makes _ _ _ _ (c .before .before .before .before .before .before .before .before .before .before .before .before .before .before .before .before .before .before .before .before .before .before .refusal .ensures) (c .before .before .before .before .before .before .before .before .before .before .before .before .before .before .before .before .before .before .before .before .before .is-done .ensures)
+    (TouchCapped _ _) _ _ _ (c .before .before .before .before .before .before .before .before .before .before .before .before .before .before .before .before .before .before .before .before .if1 .taken) (capped _ _ _ _ _ _ _ _ (c .before .before .before .before .before .before .before .before .before .before .before .before .before .as-cap .ensures) (c .before .before .before .before .before .before .before .before .before .before .before .before .touch .ensures _))
+
+same-length-7 : tie.Need-same-length-7
+same-length-7 c = refl
+
+same-length-8 : tie.Need-same-length-8
+same-length-8 c = refl
+
+same-length-9 : tie.Need-same-length-9
+same-length-9 c = refl
+
+same-length-10 : tie.Need-same-length-10
+same-length-10 c = refl
+
+same-length-11 : tie.Need-same-length-11
+same-length-11 c = refl
+
+same-length-12 : tie.Need-same-length-12
+same-length-12 c = refl
+
+returns-2 : tie.Need-returns-2
+returns-2 c = public.refuses _ _ _ _ (c .before .before .refusal .ensures) (c .before .is-done .ensures) _ _ (c .if1 .left) refl
+
+pub touch-capped-spec : {M : Type 1} → statement M
+touch-capped-spec =
+    tie.close
+    (tie.spec
+    refusal-requires
+    is-done-requires
+    as-cap-requires
+    touch-requires
+    same-length
+    same-length-2
+    same-length-3
+    same-length-4
+    same-length-5
+    same-length-6
+    returns
+    same-length-7
+    same-length-8
+    same-length-9
+    same-length-10
+    same-length-11
+    same-length-12
+    returns-2)

@@ -1,0 +1,268 @@
+// The calls of `FrequencyBuckets` that change one key, on any lent tables. Each checks first; where the tables hold a ledger it does what
+// the ledger's call does, else it says why not and leaves everything.
+ghost use Rattle.ledger.specs.Calls as ledger;
+ghost use Rattle.frequency_tables.specs.Tables.{tables};
+ghost use Rattle.frequency_tables.specs.Lent.{Makes};
+ghost use Rattle.frequency_reads.specs.Replies.{levelReply, leastReply};
+ghost use Rattle.frequency_calls.specs.Replies.{plainReply};
+use frequency_calls::Leveled;
+use frequency_calls::Popped;
+use frequency_calls::Stored;
+use frequency_reads::Epoch;
+use frequency_reads::Least;
+use frequency_reads::Level;
+use frequency_tables::State;
+use numbers::Frequency;
+use numbers::Key;
+
+pub mod epochs;
+
+// An epoch, or why there is none, and the state after the call.
+pub struct Dated {
+    pub answer: Epoch,
+    pub state: State,
+}
+
+// Binds an absent key at frequency 1, in the first free slot.
+pub fn insert(
+    keys: &mut [u64],
+    freqs: &mut [u64],
+    epochs: &mut [u64],
+    prevs: &mut [u64],
+    nexts: &mut [u64],
+    arena: &mut [u64],
+    index: &mut [u64],
+    buckets: &mut [u64],
+    spares: &mut [u64],
+    state: State,
+    key: Key,
+) -> Stored
+    ensures { λ r. ⌜ Makes (ledger.Insert (key .0)) (tables (now (keys .entry)) (now (freqs .entry)) (now (epochs .entry)) (now (prevs .entry)) (now (nexts .entry)) (now (arena .entry)) (now (index .entry)) (now (buckets .entry)) (now (spares .entry))) state (plainReply (r .answer)) (tables (now (keys .exit)) (now (freqs .exit)) (now (epochs .exit)) (now (prevs .exit)) (now (nexts .exit)) (now (arena .exit)) (now (index .exit)) (now (buckets .exit)) (now (spares .exit))) (r .state) ⌝ }
+{
+    let why = frequency_check::refusal(
+        &keys[..],
+        &freqs[..],
+        &epochs[..],
+        &prevs[..],
+        &nexts[..],
+        &arena[..],
+        &index[..],
+        &buckets[..],
+        &spares[..],
+        state,
+    );
+    if why.is_done() {
+        return frequency_calls::sound::insert(
+            keys,
+            freqs,
+            epochs,
+            prevs,
+            nexts,
+            arena,
+            index,
+            buckets,
+            spares,
+            state,
+            key,
+        );
+    }
+    Stored {
+        answer: why,
+        state: state,
+    }
+}
+
+// Hits a bound key; the answer is its new frequency.
+pub fn touch(
+    keys: &[u64],
+    freqs: &mut [u64],
+    epochs: &mut [u64],
+    prevs: &mut [u64],
+    nexts: &mut [u64],
+    arena: &[u64],
+    index: &[u64],
+    buckets: &mut [u64],
+    spares: &mut [u64],
+    state: State,
+    key: Key,
+) -> Leveled
+    ensures { λ r. ⌜ Makes (ledger.Touch (key .0)) (tables (now (keys .entry)) (now (freqs .entry)) (now (epochs .entry)) (now (prevs .entry)) (now (nexts .entry)) (now (arena .entry)) (now (index .entry)) (now (buckets .entry)) (now (spares .entry))) state (levelReply (r .answer)) (tables (now (keys .entry)) (now (freqs .exit)) (now (epochs .exit)) (now (prevs .exit)) (now (nexts .exit)) (now (arena .entry)) (now (index .entry)) (now (buckets .exit)) (now (spares .exit))) (r .state) ⌝ }
+{
+    let why = frequency_check::refusal(
+        keys,
+        &freqs[..],
+        &epochs[..],
+        &prevs[..],
+        &nexts[..],
+        arena,
+        index,
+        &buckets[..],
+        &spares[..],
+        state,
+    );
+    if why.is_done() {
+        return frequency_calls::sound::touch(
+            keys,
+            freqs,
+            epochs,
+            prevs,
+            nexts,
+            index,
+            buckets,
+            spares,
+            state,
+            key,
+            Frequency::CEILING,
+        );
+    }
+    Leveled {
+        answer: Level::Refused(why),
+        state: state,
+    }
+}
+
+// Hits a bound key up to a cap; a cap of 0 is read as 1.
+pub fn touch_capped(
+    keys: &[u64],
+    freqs: &mut [u64],
+    epochs: &mut [u64],
+    prevs: &mut [u64],
+    nexts: &mut [u64],
+    arena: &[u64],
+    index: &[u64],
+    buckets: &mut [u64],
+    spares: &mut [u64],
+    state: State,
+    key: Key,
+    cap: Frequency,
+) -> Leveled
+    ensures { λ r. ⌜ Makes (ledger.TouchCapped (cap .0) (key .0)) (tables (now (keys .entry)) (now (freqs .entry)) (now (epochs .entry)) (now (prevs .entry)) (now (nexts .entry)) (now (arena .entry)) (now (index .entry)) (now (buckets .entry)) (now (spares .entry))) state (levelReply (r .answer)) (tables (now (keys .entry)) (now (freqs .exit)) (now (epochs .exit)) (now (prevs .exit)) (now (nexts .exit)) (now (arena .entry)) (now (index .entry)) (now (buckets .exit)) (now (spares .exit))) (r .state) ⌝ }
+{
+    let why = frequency_check::refusal(
+        keys,
+        &freqs[..],
+        &epochs[..],
+        &prevs[..],
+        &nexts[..],
+        arena,
+        index,
+        &buckets[..],
+        &spares[..],
+        state,
+    );
+    if why.is_done() {
+        return frequency_calls::sound::touch(
+            keys,
+            freqs,
+            epochs,
+            prevs,
+            nexts,
+            index,
+            buckets,
+            spares,
+            state,
+            key,
+            cap.as_cap(),
+        );
+    }
+    Leveled {
+        answer: Level::Refused(why),
+        state: state,
+    }
+}
+
+// Lets go a bound key; the answer is its frequency.
+pub fn remove(
+    keys: &mut [u64],
+    freqs: &mut [u64],
+    epochs: &mut [u64],
+    prevs: &mut [u64],
+    nexts: &mut [u64],
+    arena: &mut [u64],
+    index: &mut [u64],
+    buckets: &mut [u64],
+    spares: &mut [u64],
+    state: State,
+    key: Key,
+) -> Leveled
+    ensures { λ r. ⌜ Makes (ledger.Remove (key .0)) (tables (now (keys .entry)) (now (freqs .entry)) (now (epochs .entry)) (now (prevs .entry)) (now (nexts .entry)) (now (arena .entry)) (now (index .entry)) (now (buckets .entry)) (now (spares .entry))) state (levelReply (r .answer)) (tables (now (keys .exit)) (now (freqs .exit)) (now (epochs .exit)) (now (prevs .exit)) (now (nexts .exit)) (now (arena .exit)) (now (index .exit)) (now (buckets .exit)) (now (spares .exit))) (r .state) ⌝ }
+{
+    let why = frequency_check::refusal(
+        &keys[..],
+        &freqs[..],
+        &epochs[..],
+        &prevs[..],
+        &nexts[..],
+        &arena[..],
+        &index[..],
+        &buckets[..],
+        &spares[..],
+        state,
+    );
+    if why.is_done() {
+        return frequency_calls::sound::remove(
+            keys,
+            freqs,
+            epochs,
+            prevs,
+            nexts,
+            arena,
+            index,
+            buckets,
+            spares,
+            state,
+            key,
+        );
+    }
+    Leveled {
+        answer: Level::Refused(why),
+        state: state,
+    }
+}
+
+// Lets go the key at the tail of the lowest list.
+pub fn pop_min(
+    keys: &mut [u64],
+    freqs: &mut [u64],
+    epochs: &mut [u64],
+    prevs: &mut [u64],
+    nexts: &mut [u64],
+    arena: &mut [u64],
+    index: &mut [u64],
+    buckets: &mut [u64],
+    spares: &mut [u64],
+    state: State,
+) -> Popped
+    ensures { λ r. ⌜ Makes ledger.PopMin (tables (now (keys .entry)) (now (freqs .entry)) (now (epochs .entry)) (now (prevs .entry)) (now (nexts .entry)) (now (arena .entry)) (now (index .entry)) (now (buckets .entry)) (now (spares .entry))) state (leastReply (r .answer)) (tables (now (keys .exit)) (now (freqs .exit)) (now (epochs .exit)) (now (prevs .exit)) (now (nexts .exit)) (now (arena .exit)) (now (index .exit)) (now (buckets .exit)) (now (spares .exit))) (r .state) ⌝ }
+{
+    let why = frequency_check::refusal(
+        &keys[..],
+        &freqs[..],
+        &epochs[..],
+        &prevs[..],
+        &nexts[..],
+        &arena[..],
+        &index[..],
+        &buckets[..],
+        &spares[..],
+        state,
+    );
+    if why.is_done() {
+        return frequency_calls::sound::pop_min(
+            keys,
+            freqs,
+            epochs,
+            prevs,
+            nexts,
+            arena,
+            index,
+            buckets,
+            spares,
+            state,
+        );
+    }
+    Popped {
+        answer: Least::Refused(why),
+        state: state,
+    }
+}
