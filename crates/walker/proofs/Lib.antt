@@ -1,0 +1,4 @@
+pub mod Answers
+pub mod Passed
+pub mod Places
+pub mod Shown
