@@ -1,0 +1,3 @@
+pub mod News
+pub mod Asking
+pub mod Demand3

@@ -1,0 +1,4 @@
+pub mod Batching
+pub mod Uneven
+pub mod Touching
+pub mod Agreeing

@@ -1,0 +1,108 @@
+-- Each item is one removal more, and the count takes in its answer.
+use mathlib.Core.Path.{sym, ap, _∙_}
+use mathlib.Core.List.{List}
+use Prim.Native.Nat.{ℕ, _-_}
+use native.Mathlib.Omega.{arith}
+use lib.ListN.{length, drop}
+use borrow.Author.Needs.{needs}
+use Rattle.frequency_tables.specs.Tables.{tables}
+use Rattle.lfu_calls.specs.Replies.{valueReply}
+use Rattle.lfu_tables.specs.Tables.{withValues}
+use Rattle.lfu_batches.proofs.Batching as laws
+use Rattle.lfu_batches.proofs.Batching.{Batching, removes}
+use Rattle.lfu_batches.proofs.sound.remove_batch.Statement.{statement}
+use Rattle.lfu_batches.proofs.sound.remove_batch.Tie as tie
+
+abbrev Inv-loop : tie.InvT-loop
+Inv-loop keys₀ freqs₀ epochs₀ prevs₀ nexts₀ arena₀ index₀ buckets₀ spares₀ values₀ state₀ items done₀ i₀ keys freqs epochs prevs nexts arena index buckets spares values state done i =
+    Batching removes items (drop i items) (withValues (tables keys₀ freqs₀ epochs₀ prevs₀ nexts₀ arena₀ index₀ buckets₀ spares₀) values₀) state₀ i done (withValues (tables keys freqs epochs prevs nexts arena index buckets spares) values) state
+
+abbrev μ-loop : tie.MeasureT-loop
+μ-loop keys₀ freqs₀ epochs₀ prevs₀ nexts₀ arena₀ index₀ buckets₀ spares₀ values₀ state₀ items done₀ i₀ keys freqs epochs prevs nexts arena index buckets spares values state done i = length items - i
+
+loop-holds : tie.Need-loop-holds Inv-loop μ-loop
+loop-holds c = laws.batching-start _ _ _ _
+
+mul-item : tie.Need-mul-item Inv-loop μ-loop
+mul-item c = search needs
+
+shared-slice-read-item : tie.Need-shared-slice-read-item Inv-loop μ-loop
+shared-slice-read-item c = search needs
+
+remove-requires : tie.Need-remove-requires Inv-loop μ-loop
+remove-requires c κs = laws.batching-sound _ _ _ _ _ _ _ _ _ (c .before .before .before .before .before .before .before .before .before .before .before .before .loop .inv) (c .before .before .before .before .before .before .before .before .before .before .before .before .before .before .before .before .before .before .before .before .before .before .before .before .pre)
+
+valued-once-requires : tie.Need-valued-once-requires Inv-loop μ-loop
+valued-once-requires c κs = search needs
+
+add-done : tie.Need-add-done Inv-loop μ-loop
+add-done c = let few = c .before .before .before .before .before .before .before .before .before .before .before .before .before .before .before .before .before .before .before .before .before .before .before .before .before .before .before .before .before .before .before .before .before .before .before .loop .inv .few in let one = laws.done-few (valueReply (c .before .before .before .before .before .before .before .before .before .before .before .before .before .before .before .before .before .before .before .before .before .before .remove .result .answer)) in let is = c .valued-once .ensures in let left = c .before .before .before .before .before .before .before .before .before .before .before .before .before .before .before .before .before .before .before .before .before .before .before .before .before .before .before .before .before .before .before .before .before .before .loop-test .taken in let size = c .before .before .before .before .before .before .before .before .before .before .before .before .before .before .before .before .before .before .before .before .before .before .before .before .before .before .before .before .before .before .before .before .before .before .before .before .before .before .before .before .before .before .before .before .before .before .before .good .1 .1 .1 .1 .1 .1 .1 .1 .1 .1 .1 .0 .0 in search needs
+
+add-i : tie.Need-add-i Inv-loop μ-loop
+add-i c = let left = c .before .before .before .before .before .before .before .before .before .before .before .before .before .before .before .before .before .before .before .before .before .before .before .before .before .before .before .before .before .before .before .before .before .before .loop-test .taken in let size = c .before .before .before .before .before .before .before .before .before .before .before .before .before .before .before .before .before .before .before .before .before .before .before .before .before .before .before .before .before .before .before .before .before .before .before .before .before .before .before .before .before .before .before .before .before .before .before .good .1 .1 .1 .1 .1 .1 .1 .1 .1 .1 .1 .0 .0 in search needs
+
+loop-less : tie.Need-loop-less Inv-loop μ-loop
+loop-less c = let left = c .before .before .before .before .before .before .before .before .before .before .before .before .before .before .before .before .before .before .before .before .before .before .before .before .before .before .before .before .before .before .before .before .before .before .loop-test .taken in omega arith
+
+loop-again : tie.Need-loop-again Inv-loop μ-loop
+loop-again c = laws.batching-more _ _ _ _ _ _ _ _ _ (c .before .before .before .before .before .before .before .before .before .before .before .before .before .before .before .before .before .before .before .before .before .before .before .before .before .before .before .before .before .before .before .before .before .before .before .loop .inv) _ _ (laws.left-keys _ _ (c .before .before .before .before .before .before .before .before .before .before .before .before .before .before .before .before .before .before .before .before .before .before .before .before .before .before .before .before .before .before .before .before .before .before .loop-test .taken)) _ _ _ (c .before .before .before .before .before .before .before .before .before .before .before .before .before .before .before .before .before .before .before .before .before .before .remove .ensures) _ (c .valued-once .ensures)
+
+same-length : tie.Need-same-length Inv-loop μ-loop
+same-length c = let w = c .before .before .before .before .before .before .before .before .before .before .before .before .before .pre in laws.batching-sized _ _ _ _ _ _ _ _ _ (c .before .loop .inv) w .0 .keys-size ∙ sym (w .1 .table .carries .sized .keys-size)
+
+same-length-2 : tie.Need-same-length-2 Inv-loop μ-loop
+same-length-2 c = let w = c .before .before .before .before .before .before .before .before .before .before .before .before .before .pre in laws.batching-sized _ _ _ _ _ _ _ _ _ (c .before .loop .inv) w .0 .freqs-size ∙ sym (w .1 .table .carries .sized .freqs-size)
+
+same-length-3 : tie.Need-same-length-3 Inv-loop μ-loop
+same-length-3 c = let w = c .before .before .before .before .before .before .before .before .before .before .before .before .before .pre in laws.batching-sized _ _ _ _ _ _ _ _ _ (c .before .loop .inv) w .0 .epochs-size ∙ sym (w .1 .table .carries .sized .epochs-size)
+
+same-length-4 : tie.Need-same-length-4 Inv-loop μ-loop
+same-length-4 c = let w = c .before .before .before .before .before .before .before .before .before .before .before .before .before .pre in laws.batching-sized _ _ _ _ _ _ _ _ _ (c .before .loop .inv) w .0 .prevs-size ∙ sym (w .1 .table .carries .sized .prevs-size)
+
+same-length-5 : tie.Need-same-length-5 Inv-loop μ-loop
+same-length-5 c = let w = c .before .before .before .before .before .before .before .before .before .before .before .before .before .pre in laws.batching-sized _ _ _ _ _ _ _ _ _ (c .before .loop .inv) w .0 .nexts-size ∙ sym (w .1 .table .carries .sized .nexts-size)
+
+same-length-6 : tie.Need-same-length-6 Inv-loop μ-loop
+same-length-6 c = let w = c .before .before .before .before .before .before .before .before .before .before .before .before .before .pre in laws.batching-sized _ _ _ _ _ _ _ _ _ (c .before .loop .inv) w .0 .arena-size ∙ sym (w .1 .table .carries .sized .arena-size)
+
+same-length-7 : tie.Need-same-length-7 Inv-loop μ-loop
+same-length-7 c = let w = c .before .before .before .before .before .before .before .before .before .before .before .before .before .pre in laws.batching-sized _ _ _ _ _ _ _ _ _ (c .before .loop .inv) w .0 .index-size ∙ sym (w .1 .table .carries .sized .index-size)
+
+same-length-8 : tie.Need-same-length-8 Inv-loop μ-loop
+same-length-8 c = let w = c .before .before .before .before .before .before .before .before .before .before .before .before .before .pre in laws.batching-sized _ _ _ _ _ _ _ _ _ (c .before .loop .inv) w .0 .buckets-size ∙ sym (w .1 .table .carries .sized .buckets-size)
+
+same-length-9 : tie.Need-same-length-9 Inv-loop μ-loop
+same-length-9 c = let w = c .before .before .before .before .before .before .before .before .before .before .before .before .before .pre in laws.batching-sized _ _ _ _ _ _ _ _ _ (c .before .loop .inv) w .0 .spares-size ∙ sym (w .1 .table .carries .sized .spares-size)
+
+same-length-10 : tie.Need-same-length-10 Inv-loop μ-loop
+same-length-10 c = let w = c .before .before .before .before .before .before .before .before .before .before .before .before .before .pre in laws.batching-sized _ _ _ _ _ _ _ _ _ (c .before .loop .inv) w .1 ∙ sym (ap (λ (us : List ℕ). length us) (w .1 .values) ∙ w .1 .formed .fits)
+
+returns : tie.Need-returns Inv-loop μ-loop
+returns c = laws.removes-end _ _ _ _ _ _ _ _ (laws.no-keys _ _ (c .loop-test .left)) (c .before .loop .inv)
+
+pub remove-batch-spec : {M : Type 1} → statement M
+remove-batch-spec =
+    tie.close
+    (tie.spec
+    Inv-loop
+    μ-loop
+    loop-holds
+    mul-item
+    shared-slice-read-item
+    remove-requires
+    valued-once-requires
+    add-done
+    add-i
+    loop-less
+    loop-again
+    same-length
+    same-length-2
+    same-length-3
+    same-length-4
+    same-length-5
+    same-length-6
+    same-length-7
+    same-length-8
+    same-length-9
+    same-length-10
+    returns)
