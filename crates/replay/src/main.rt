@@ -28,7 +28,7 @@ pub struct Turned {
 // Prints a line, and says whether it could be written.
 fn say(line: Line) -> bool {
     let mut out = [0u8; 64];
-    let n = trace::sound::writing::write(&mut out, 0, line);
+    let n = trace::sound::write(&mut out, 0, line);
     io::write_all(1, &out[..n])
 }
 

@@ -58,7 +58,7 @@ pub fn feed(
         let code = input[next];
         let key = Key(number(input, next + 1));
         let value = number(input, next + 9);
-        let stepped = trace::sound::step(
+        let stepped = trace_steps::sound::step(
             keys,
             freqs,
             epochs,

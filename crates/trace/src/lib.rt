@@ -1,7 +1,4 @@
-// The trace format: the lines that a record of a trace prints, and what is answered on the way to them. Writing a line and taking a
-// step on the tables stand in `sound`.
-use frequency_tables::State;
-use numbers::Key;
+// The trace format: the words and the lines that a record of a trace prints. Writing a line into a buffer stands in `sound`.
 
 pub mod sound;
 
@@ -31,23 +28,4 @@ pub enum Line {
     Plain(Word),
     One(Word, u64),
     Two(Word, u64, u64),
-}
-
-// What a record asks for beside its operation, and the state that it meets.
-pub struct Ask {
-    pub state: State,
-    pub key: Key,
-    pub value: u64,
-}
-
-// The line that a record prints, and the state after it.
-pub struct Told {
-    pub line: Line,
-    pub state: State,
-}
-
-// Where the next line goes, and the state after the lines so far.
-pub struct Stepped {
-    pub at: usize,
-    pub state: State,
 }

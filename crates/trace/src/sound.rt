@@ -1,188 +1,91 @@
-// Steps on tables that are known to be sound, and into a buffer that is known to have room: they check nothing.
-ghost use mathlib.Core.Path.{_≡_};
+// Writing a line into a lent buffer, from a place on: a word, numbers in plain decimal, and a line feed. What stands before the place
+// stays; the answer is the place after what was written.
 ghost use Prim.Native.Nat.{_+_, _≤_};
 ghost use lib.ListN.{length};
-ghost use Rattle.frequency_tables.specs.Tables.{tables};
-ghost use Rattle.lfu_tables.specs.Tables.{withValues, CacheSound};
-ghost use Rattle.trace.specs.Lines.{step as steps, LONGEST};
-ghost use Rattle.trace.specs.Steps.{Tells, Prints};
-use crate::Ask;
+ghost use Rattle.trace.specs.Words.{letters};
+ghost use Rattle.trace.specs.Lines.{decimal, text, spaced as gap, LETTERS, DIGITS, LONGEST};
+ghost use Rattle.trace.specs.Written.{Writes, Spells};
 use crate::Line;
-use crate::Stepped;
-use crate::Told;
 use crate::Word;
-use cases::clear;
-use cases::evict;
-use cases::get;
-use cases::insert;
-use cases::least;
-use cases::peek;
-use cases::remove;
-use cases::reset;
-use frequency_tables::State;
-use numbers::Key;
 
-pub mod cases;
-pub mod writing;
-
-// 0 and 9 to 255: no operation. Nothing changes.
-fn bad(ask: Ask) -> Told
-    ensures { λ r. ⌜ (r .line ≡ Line.Plain Word.Bad) × (r .state ≡ ask .state) ⌝ }
+// Some bytes as they are.
+pub fn put(out: &mut [u8], at: usize, bytes: &[u8]) -> usize
+    requires { ⌜ at + length (now bytes) ≤ length (now out) ⌝ }
+    ensures { λ r. ⌜ Writes (now (out .entry)) at (now (bytes .entry)) (now (out .exit)) r ⌝ }
 {
-    let state = ask.state;
-    Told {
-        line: Line::Plain(Word::Bad),
-        state: state,
+    let mut j = 0;
+    while j < bytes.len() {
+        out[at + j] = bytes[j];
+        j += 1;
+    }
+    at + bytes.len()
+}
+
+// A word.
+fn spell(out: &mut [u8], at: usize, word: Word) -> usize
+    requires { ⌜ at + LETTERS ≤ length (now out) ⌝ }
+    ensures { λ r. ⌜ Spells (now (out .entry)) at (letters word) LETTERS (now (out .exit)) r ⌝ }
+{
+    match word {
+        Word::New => put(out, at, b"NEW"),
+        Word::NewOut => put(out, at, b"NEW OUT"),
+        Word::Old => put(out, at, b"OLD"),
+        Word::Full => put(out, at, b"FULL"),
+        Word::Hit => put(out, at, b"HIT"),
+        Word::Miss => put(out, at, b"MISS"),
+        Word::See => put(out, at, b"SEE"),
+        Word::Gone => put(out, at, b"GONE"),
+        Word::Least => put(out, at, b"LEAST"),
+        Word::Nothing => put(out, at, b"NONE"),
+        Word::Reset => put(out, at, b"RESET"),
+        Word::Okay => put(out, at, b"OK"),
+        Word::Out => put(out, at, b"OUT"),
+        Word::Bad => put(out, at, b"BAD"),
+        Word::Cut => put(out, at, b"CUT"),
+        Word::Capacity => put(out, at, b"CAPACITY"),
+        Word::End => put(out, at, b"END"),
     }
 }
 
-// One record, by its operation.
-fn act(
-    keys: &mut [u64],
-    freqs: &mut [u64],
-    epochs: &mut [u64],
-    prevs: &mut [u64],
-    nexts: &mut [u64],
-    arena: &mut [u64],
-    index: &mut [u64],
-    buckets: &mut [u64],
-    spares: &mut [u64],
-    values: &mut [u64],
-    code: u8,
-    ask: Ask,
-) -> Told
-    requires { ⌜ CacheSound (withValues (tables (now keys) (now freqs) (now epochs) (now prevs) (now nexts) (now arena) (now index) (now buckets) (now spares)) (now values)) (ask .state) ⌝ }
-    ensures { λ r. ⌜ Tells (steps code (ask .key .0) (ask .value)) (withValues (tables (now (keys .entry)) (now (freqs .entry)) (now (epochs .entry)) (now (prevs .entry)) (now (nexts .entry)) (now (arena .entry)) (now (index .entry)) (now (buckets .entry)) (now (spares .entry))) (now (values .entry))) (ask .state) (r .line) (withValues (tables (now (keys .exit)) (now (freqs .exit)) (now (epochs .exit)) (now (prevs .exit)) (now (nexts .exit)) (now (arena .exit)) (now (index .exit)) (now (buckets .exit)) (now (spares .exit))) (now (values .exit))) (r .state) ⌝ }
+// A number in plain decimal.
+pub fn number(out: &mut [u8], at: usize, n: u64) -> usize
+    requires { ⌜ at + DIGITS ≤ length (now out) ⌝ }
+    ensures { λ r. ⌜ Spells (now (out .entry)) at (decimal n) DIGITS (now (out .exit)) r ⌝ }
 {
-    match code {
-        1 => insert(
-            keys,
-            freqs,
-            epochs,
-            prevs,
-            nexts,
-            arena,
-            index,
-            buckets,
-            spares,
-            values,
-            ask,
-        ),
-        2 => get(
-            &keys[..],
-            freqs,
-            epochs,
-            prevs,
-            nexts,
-            &index[..],
-            buckets,
-            spares,
-            &values[..],
-            ask,
-        ),
-        3 => peek(&keys[..], &index[..], &values[..], ask),
-        4 => remove(
-            keys,
-            freqs,
-            epochs,
-            prevs,
-            nexts,
-            arena,
-            index,
-            buckets,
-            spares,
-            values,
-            ask,
-        ),
-        5 => least(&keys[..], &buckets[..], &values[..], ask),
-        6 => reset(
-            keys,
-            freqs,
-            epochs,
-            prevs,
-            nexts,
-            arena,
-            index,
-            buckets,
-            spares,
-            ask,
-        ),
-        7 => clear(
-            keys,
-            freqs,
-            epochs,
-            prevs,
-            nexts,
-            arena,
-            index,
-            spares,
-            values,
-            ask,
-        ),
-        8 => evict(
-            keys,
-            freqs,
-            epochs,
-            prevs,
-            nexts,
-            arena,
-            index,
-            buckets,
-            spares,
-            values,
-            ask,
-        ),
-        9..=255 => bad(ask),
-        0 => bad(ask),
-    }
+    let mut digits = [0u8; 20];
+    let k = io::decimal(n, &mut digits);
+    put(out, at, &digits[..k])
 }
 
-// One record: its line is written from a place on, where the buffer has room for the longest line.
-pub fn step(
-    keys: &mut [u64],
-    freqs: &mut [u64],
-    epochs: &mut [u64],
-    prevs: &mut [u64],
-    nexts: &mut [u64],
-    arena: &mut [u64],
-    index: &mut [u64],
-    buckets: &mut [u64],
-    spares: &mut [u64],
-    values: &mut [u64],
-    state: State,
-    code: u8,
-    key: Key,
-    value: u64,
-    out: &mut [u8],
-    at: usize,
-) -> Stepped
-    requires { ⌜ CacheSound (withValues (tables (now keys) (now freqs) (now epochs) (now prevs) (now nexts) (now arena) (now index) (now buckets) (now spares)) (now values)) state × (at + LONGEST ≤ length (now out)) ⌝ }
-    ensures { λ r. ⌜ Prints (steps code (key .0) value) (withValues (tables (now (keys .entry)) (now (freqs .entry)) (now (epochs .entry)) (now (prevs .entry)) (now (nexts .entry)) (now (arena .entry)) (now (index .entry)) (now (buckets .entry)) (now (spares .entry))) (now (values .entry))) state (now (out .entry)) at (withValues (tables (now (keys .exit)) (now (freqs .exit)) (now (epochs .exit)) (now (prevs .exit)) (now (nexts .exit)) (now (arena .exit)) (now (index .exit)) (now (buckets .exit)) (now (spares .exit))) (now (values .exit))) (r .state) (now (out .exit)) (r .at) ⌝ }
+// A number behind a blank.
+pub fn spaced(out: &mut [u8], at: usize, n: u64) -> usize
+    requires { ⌜ at + (1 + DIGITS) ≤ length (now out) ⌝ }
+    ensures { λ r. ⌜ Spells (now (out .entry)) at (gap n) (1 + DIGITS) (now (out .exit)) r ⌝ }
 {
-    let ask = Ask {
-        state: state,
-        key: key,
-        value: value,
-    };
-    let told = act(
-        keys,
-        freqs,
-        epochs,
-        prevs,
-        nexts,
-        arena,
-        index,
-        buckets,
-        spares,
-        values,
-        code,
-        ask,
-    );
-    let line = told.line;
-    let after = told.state;
-    let next = writing::write(out, at, line);
-    Stepped {
-        at: next,
-        state: after,
+    let next = put(out, at, b" ");
+    number(out, next, n)
+}
+
+// A line, with its line feed.
+pub fn write(out: &mut [u8], at: usize, line: Line) -> usize
+    requires { ⌜ at + LONGEST ≤ length (now out) ⌝ }
+    ensures { λ r. ⌜ Spells (now (out .entry)) at (text line) LONGEST (now (out .exit)) r ⌝ }
+{
+    match line {
+        Line::Plain(word) => {
+            let end = spell(out, at, word);
+            put(out, end, b"\n")
+        }
+        Line::One(word, n) => {
+            let first = spell(out, at, word);
+            let end = spaced(out, first, n);
+            put(out, end, b"\n")
+        }
+        Line::Two(word, m, n) => {
+            let first = spell(out, at, word);
+            let second = spaced(out, first, m);
+            let end = spaced(out, second, n);
+            put(out, end, b"\n")
+        }
     }
 }
