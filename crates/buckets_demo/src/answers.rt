@@ -1,9 +1,9 @@
 // What a call has answered, as the rest of its line: document 01's number, then the values by name. Where a call hands back a state, so
 // does the function that shows its answer.
-use frequency_buckets::Dated;
 use frequency_calls::Leveled;
 use frequency_calls::Popped;
 use frequency_calls::Stored;
+use frequency_epochs::Dated;
 use frequency_reads::Epoch;
 use frequency_reads::Least;
 use frequency_reads::Level;

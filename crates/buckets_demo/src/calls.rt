@@ -3,7 +3,6 @@
 use crate::answers;
 use crate::shown;
 use frequency_buckets as public;
-use frequency_buckets::epochs;
 use frequency_queries::walk;
 use frequency_tables::State;
 use frequency_whole as whole;
@@ -65,10 +64,33 @@ fn asked(
 ) -> State {
     match call {
         Call::SetEpoch(epoch) => {
-            return answers::stored(epochs::set_epoch(k, f, e, p, n, a, x, b, s, state, epoch));
+            return answers::stored(frequency_epochs::set_epoch(
+                k,
+                f,
+                e,
+                p,
+                n,
+                a,
+                x,
+                b,
+                s,
+                state,
+                epoch,
+            ));
         }
         Call::AdvanceEpoch => {
-            return answers::dated(epochs::advance_epoch(k, f, e, p, n, a, x, b, s, state));
+            return answers::dated(frequency_epochs::advance_epoch(
+                k,
+                f,
+                e,
+                p,
+                n,
+                a,
+                x,
+                b,
+                s,
+                state,
+            ));
         }
         Call::WalkStart(frequency) => {
             let of = Frequency(frequency);

@@ -125,7 +125,7 @@ pub fn make(
     values: &mut [u64],
     capacity: u64,
 ) -> State {
-    let made = lfu::whole::new(
+    let made = lfu_whole::new(
         keys,
         freqs,
         epochs,
@@ -160,7 +160,7 @@ pub fn least(
     values: &[u64],
     state: State,
 ) {
-    match lfu::reads::peek_lfu(
+    match lfu_queries::peek_lfu(
         keys,
         freqs,
         epochs,
@@ -193,7 +193,7 @@ pub fn end(
     values: &[u64],
     state: State,
 ) {
-    match lfu::reads::len(
+    match lfu_queries::len(
         keys,
         freqs,
         epochs,

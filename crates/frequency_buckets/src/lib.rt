@@ -8,20 +8,11 @@ ghost use Rattle.frequency_calls.specs.Replies.{plainReply};
 use frequency_calls::Leveled;
 use frequency_calls::Popped;
 use frequency_calls::Stored;
-use frequency_reads::Epoch;
 use frequency_reads::Least;
 use frequency_reads::Level;
 use frequency_tables::State;
 use numbers::Frequency;
 use numbers::Key;
-
-pub mod epochs;
-
-// An epoch, or why there is none, and the state after the call.
-pub struct Dated {
-    pub answer: Epoch,
-    pub state: State,
-}
 
 // Binds an absent key at frequency 1, in the first free slot.
 pub fn insert(

@@ -1,10 +1,9 @@
--- What calls do that are not lent every table: the same, for every table that may stand beside those that are.
+-- What a touch does, which is not lent every table: the same, for every table that may stand beside those that are.
 use mathlib.Core.List.{List}
 use Prim.Native.Nat.{ℕ}
-use Rattle.ledger.specs.Ledger.{Ledger}
-use Rattle.ledger.specs.Buckets.{Reply, Outcome, touchUpTo}
+use Rattle.ledger.specs.Buckets.{touchUpTo}
 use Rattle.frequency_tables.specs.declared.State.{State}
-use Rattle.frequency_tables.specs.Tables.{Tables, tables}
+use Rattle.frequency_tables.specs.Tables.{tables}
 use Rattle.frequency_tables.specs.Holds.{Sound}
 use Rattle.frequency_tables.specs.Calls.{Does}
 use Rattle.frequency_reads.specs.Replies.{levelReply}
@@ -18,11 +17,3 @@ Hittable k f e p n i b sp s = (a : List ℕ) × Sound (tables k f e p n a i b sp
 abbrev pub Touches : (cap key : ℕ) → (k f e p n i b sp : List ℕ) → State → Leveled → (f' e' p' n' b' sp' : List ℕ) → Type 0
 Touches cap key k f e p n i b sp s r f' e' p' n' b' sp' =
     (a : List ℕ) → Does (touchUpTo cap key) (tables k f e p n a i b sp) s (levelReply (r .answer)) (tables k f' e' p' n' a i b' sp') (r .state)
-
--- only the state is lent
-abbrev pub OnState : (Ledger → Outcome) → State → Reply → State → Type 0
-OnState call s r s' = (t : Tables) → Does call t s r t s'
-
--- keys, epochs and index are lent, and only the epochs change
-abbrev pub OnEpochs : (Ledger → Outcome) → (k e i : List ℕ) → Reply → (e' : List ℕ) → Type 0
-OnEpochs call k e i r e' = (f p n a b sp : List ℕ) (s : State) → Does call (tables k f e p n a i b sp) s r (tables k f e' p n a i b sp) s

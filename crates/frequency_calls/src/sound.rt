@@ -19,8 +19,6 @@ use numbers::Key;
 use numbers::NONE;
 use numbers::Slot;
 
-pub mod epochs;
-
 // Binds an absent key at frequency 1.
 pub fn insert(
     keys: &mut [u64],

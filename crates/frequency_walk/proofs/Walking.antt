@@ -112,11 +112,11 @@ module _ (n : List ℕ) (x : ℕ) where
       steps = λ k f e p a i bk sp s l h. q ∙ step-led (tables k f e p n a i bk sp) s l (h .carries) x b d;
     }
 
-    pub next-none : cells n x ≡ NONE → Leads n x link.NoMore
-    next-none q = led-by link.NoMore (sym (if-same (cells n x) NONE link.NoMore (link.At (record { 0 = cells n x })) q))
+    pub next-none : (y : ℕ) → y ≡ cells n x → y ≡ NONE → Leads n x link.NoMore
+    next-none y e q = led-by link.NoMore (sym (if-same (cells n x) NONE link.NoMore (link.At (record { 0 = cells n x })) (sym e ∙ q)))
 
-    pub next-at : cells n x ≢ NONE → Leads n x (link.At (record { 0 = cells n x }))
-    next-at q = led-by (link.At (record { 0 = cells n x })) (sym (if-other (cells n x) NONE link.NoMore (link.At (record { 0 = cells n x })) q))
+    pub next-at : (y : ℕ) → y ≡ cells n x → y ≢ NONE → Leads n x (link.At (record { 0 = y }))
+    next-at y e q = subst (λ (z : ℕ). Leads n x (link.At (record { 0 = z }))) (sym e) (led-by (link.At (record { 0 = cells n x })) (sym (if-other (cells n x) NONE link.NoMore (link.At (record { 0 = cells n x })) (λ w. q (e ∙ w)))))
 
 -- What is told
 

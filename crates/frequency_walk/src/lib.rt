@@ -32,7 +32,7 @@ pub fn next(nexts: &[u64], slot: Slot) -> After
     }
     let s = slot.0 as usize;
     if s < nexts.len() {
-        let after = nexts[s];
+        let after = levels::sound::next(nexts, slot);
         if after == NONE {
             return After::NoMore;
         }

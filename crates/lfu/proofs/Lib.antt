@@ -1,3 +1,1 @@
-pub mod News
-pub mod Asking
 pub mod Demand3

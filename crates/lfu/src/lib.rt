@@ -17,10 +17,6 @@ use lfu_calls::Value;
 use lfu_calls::Valued;
 use numbers::Key;
 
-pub mod reads;
-pub mod sound;
-pub mod whole;
-
 // Binds an absent key with its value; where no slot is free the key at the tail of the lowest list goes first, and is told. A bound
 // key's value is replaced, and the old one told.
 pub fn insert(
@@ -54,7 +50,7 @@ pub fn insert(
         state,
     );
     if why.is_done() {
-        return lfu_calls::sound::inserts::insert(
+        return lfu_inserts::sound::insert(
             keys,
             freqs,
             epochs,

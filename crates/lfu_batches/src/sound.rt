@@ -38,7 +38,7 @@ pub fn insert_batch(
     while i < items.len() {
         let item = items[i];
         let value = given[i];
-        let entered = lfu_calls::sound::inserts::insert(
+        let entered = lfu_inserts::sound::insert(
             keys,
             freqs,
             epochs,

@@ -1,23 +1,16 @@
 -- What calls do that are not lent every table: the same, for every table that may stand beside those that are.
-use mathlib.Core.Path.{_≡_}
-use mathlib.Core.Option.{none}
 use mathlib.Core.List.{List}
 use Prim.Native.Nat.{ℕ}
-use lib.ListN.{set}
-use Rattle.numbers.specs.Marks.{NONE}
-use Rattle.ledger.specs.Ledger.{Ledger, lookup}
 use Rattle.ledger.specs.Buckets.{Reply}
 use Rattle.ledger.specs.Cache.{Cache}
-use Rattle.ledger.specs.History.{Insert, Get, Reset}
+use Rattle.ledger.specs.History.{Get, Reset}
 use Rattle.ledger.specs.CacheCalls.{CacheOutcome, cacheCalls}
 use Rattle.frequency_tables.specs.declared.State.{State}
 use Rattle.frequency_tables.specs.Tables.{Tables, tables}
-use Rattle.frequency_tables.specs.Holds.{Holds, Sound}
 use Rattle.lfu_tables.specs.Tables.{withValues, CacheSound}
 use Rattle.lfu_tables.specs.Lent.{CacheDoes, CacheTells}
-use Rattle.lfu_calls.specs.declared.Entered.{Entered}
 use Rattle.lfu_calls.specs.declared.Valued.{Valued}
-use Rattle.lfu_calls.specs.Replies.{insertionReply, valueReply}
+use Rattle.lfu_calls.specs.Replies.{valueReply}
 
 -- keys, index and values are lent
 abbrev pub OfKeys : (k i vs : List ℕ) → (Cache → CacheOutcome) → Reply → Type 0
@@ -43,20 +36,3 @@ Gets key k f e p n i b sp vs s r f' e' p' n' b' sp' =
 -- a reset, whatever the values
 abbrev pub Resets : (key : ℕ) → Tables → State → Reply → Tables → State → Type 0
 Resets key t s r t' s' = (vs : List ℕ) → CacheDoes (cacheCalls (Reset key)) (withValues t vs) s r (withValues t' vs) s'
-
--- Binding a key that is not bound
-
--- the key is not bound
-pub record Unbound (t : Tables) (s : State) (key : ℕ) : Type 0 where
-  pub sound : Sound t s
-  pub missed : (l : Ledger) → Holds t s l → lookup key l ≡ none
-
--- and no slot is free
-pub record NoRoom (t : Tables) (s : State) (key : ℕ) : Type 0 where
-  pub unbound : Unbound t s key
-  pub full : s .free .first ≡ NONE
-
--- what an insert does, once the value is stored in the slot that is answered
-abbrev pub Enters : (key : ℕ) → Tables → State → Tables → Entered → Type 0
-Enters key t s t' r =
-    (vs : List ℕ) (v : ℕ) → CacheDoes (cacheCalls (Insert key v)) (withValues t vs) s (insertionReply (r .answer)) (withValues t' (set vs (r .slot) v)) (r .state)

@@ -42,10 +42,3 @@ pub struct Evicted {
     pub answer: Least,
     pub state: State,
 }
-
-// The slot that an insert bound its key in (NONE where it bound none), how it went, and the state after it.
-pub struct Entered {
-    pub slot: u64,
-    pub answer: Insertion,
-    pub state: State,
-}

@@ -22,7 +22,6 @@ use numbers::Key;
 use numbers::NONE;
 use numbers::Slot;
 
-pub mod inserts;
 pub mod reads;
 
 // Hits a bound key, and answers its value.

@@ -150,7 +150,7 @@ pub fn run(
 )
     requires { ⌜ Sizes (withValues (tables (now keys) (now freqs) (now epochs) (now prevs) (now nexts) (now arena) (now index) (now buckets) (now spares)) (now values)) capacity ⌝ }
 {
-    let mut after = lfu::sound::make(
+    let mut after = lfu_whole::sound::make(
         keys,
         freqs,
         epochs,

@@ -12,17 +12,14 @@ is-free-requires c κs = search needs
 returns : tie.Need-returns
 returns c = laws.next-free _ _ (c .before .is-free .ensures .0 (c .if1 .taken) .1)
 
-mul-after : tie.Need-mul-after
-mul-after c = search needs
-
-shared-slice-read-after : tie.Need-shared-slice-read-after
-shared-slice-read-after c = search needs
+next-requires : tie.Need-next-requires
+next-requires c κs = c .if2 .taken
 
 returns-2 : tie.Need-returns-2
-returns-2 c = laws.next-none _ _ (c .before .before .if2 .taken) (λ e. said-no _ (c .before .before .before .before .is-free .ensures) (c .before .before .before .if1 .left) (c .before .before .if2 .taken, e)) (c .if3 .taken)
+returns-2 c = laws.next-none _ _ (c .before .before .if2 .taken) (λ e. said-no _ (c .before .before .before .before .is-free .ensures) (c .before .before .before .if1 .left) (c .before .before .if2 .taken, e)) _ (c .before .next .ensures) (c .if3 .taken)
 
 returns-3 : tie.Need-returns-3
-returns-3 c = laws.next-at _ _ (c .before .before .if2 .taken) (λ e. said-no _ (c .before .before .before .before .is-free .ensures) (c .before .before .before .if1 .left) (c .before .before .if2 .taken, e)) (c .if3 .left)
+returns-3 c = laws.next-at _ _ (c .before .before .if2 .taken) (λ e. said-no _ (c .before .before .before .before .is-free .ensures) (c .before .before .before .if1 .left) (c .before .before .if2 .taken, e)) _ (c .before .next .ensures) (c .if3 .left)
 
 returns-4 : tie.Need-returns-4
 returns-4 c = laws.next-outside _ _ (let left = c .if2 .left in omega arith)
@@ -33,8 +30,7 @@ next-spec =
     (tie.spec
     is-free-requires
     returns
-    mul-after
-    shared-slice-read-after
+    next-requires
     returns-2
     returns-3
     returns-4)

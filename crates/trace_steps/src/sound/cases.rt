@@ -82,7 +82,7 @@ pub(crate) fn insert(
 {
     let state = ask.state;
     let key = ask.key;
-    let done = lfu_calls::sound::inserts::insert(
+    let done = lfu_inserts::sound::insert(
         keys,
         freqs,
         epochs,
@@ -306,7 +306,7 @@ pub(crate) fn clear(
     ensures { λ r. ⌜ ((b : List ℕ) → Tells (tells Clear) (withValues (tables (now (keys .entry)) (now (freqs .entry)) (now (epochs .entry)) (now (prevs .entry)) (now (nexts .entry)) (now (arena .entry)) (now (index .entry)) b (now (spares .entry))) (now (values .entry))) (ask .state) (r .line) (withValues (tables (now (keys .exit)) (now (freqs .exit)) (now (epochs .exit)) (now (prevs .exit)) (now (nexts .exit)) (now (arena .exit)) (now (index .exit)) b (now (spares .exit))) (now (values .exit))) (r .state)) ⌝ }
 {
     let state = ask.state;
-    let after = lfu::sound::make(
+    let after = lfu_whole::sound::make(
         keys,
         freqs,
         epochs,

@@ -10,7 +10,7 @@ lowest-requires : tie.Need-lowest-requires
 lowest-requires c κs = let w = c .before .before .before .before .before .before .before .before .before .before .pre .1 .carries in (_, _, _, _, (w .slots, w .lists))
 
 same-length : tie.Need-same-length
-same-length c = search needs
+same-length c = refl
 
 returns : tie.Need-returns
 returns c = doing.pop-empty _ _ _ (λ l h. c .before .lowest .ensures .answer _ _ _ _ _ (h .lists)) (c .if1 .taken)
@@ -31,31 +31,31 @@ let-go-requires : tie.Need-let-go-requires
 let-go-requires c κs = doing.pop-bound _ _ _ (λ l h. c .before .before .before .before .before .before .before .before .before .before .before .before .lowest .ensures .answer _ _ _ _ _ (h .lists)) (c .before .before .before .before .before .before .before .before .before .before .before .if1 .left) (c .before .before .before .before .before .before .before .before .before .before .before .before .before .before .before .before .before .before .before .before .before .before .before .pre)
 
 same-length-2 : tie.Need-same-length-2
-same-length-2 c = search needs
+same-length-2 c = c .before .before .before .before .before .before .before .before .before .before .before .before .before .before .before .before .before .before .let-go .kept .0
 
 same-length-3 : tie.Need-same-length-3
-same-length-3 c = search needs
+same-length-3 c = c .before .before .before .before .before .before .before .before .before .before .before .before .before .before .before .before .before .before .let-go .kept .1 .0
 
 same-length-4 : tie.Need-same-length-4
-same-length-4 c = search needs
+same-length-4 c = c .before .before .before .before .before .before .before .before .before .before .before .before .before .before .before .before .before .before .let-go .kept .1 .1 .0
 
 same-length-5 : tie.Need-same-length-5
-same-length-5 c = search needs
+same-length-5 c = c .before .before .before .before .before .before .before .before .before .before .before .before .before .before .before .before .before .before .let-go .kept .1 .1 .1 .0
 
 same-length-6 : tie.Need-same-length-6
-same-length-6 c = search needs
+same-length-6 c = c .before .before .before .before .before .before .before .before .before .before .before .before .before .before .before .before .before .before .let-go .kept .1 .1 .1 .1 .0
 
 same-length-7 : tie.Need-same-length-7
-same-length-7 c = search needs
+same-length-7 c = c .before .before .before .before .before .before .before .before .before .before .before .before .before .before .before .before .before .before .let-go .kept .1 .1 .1 .1 .1 .0
 
 same-length-8 : tie.Need-same-length-8
-same-length-8 c = search needs
+same-length-8 c = c .before .before .before .before .before .before .before .before .before .before .before .before .before .before .before .before .before .before .let-go .kept .1 .1 .1 .1 .1 .1 .0
 
 same-length-9 : tie.Need-same-length-9
-same-length-9 c = search needs
+same-length-9 c = c .before .before .before .before .before .before .before .before .before .before .before .before .before .before .before .before .before .before .let-go .kept .1 .1 .1 .1 .1 .1 .1 .0
 
 same-length-10 : tie.Need-same-length-10
-same-length-10 c = search needs
+same-length-10 c = c .before .before .before .before .before .before .before .before .before .before .before .before .before .before .before .before .before .before .let-go .kept .1 .1 .1 .1 .1 .1 .1 .1 .0
 
 returns-2 : tie.Need-returns-2
 returns-2 c = doing.pop-done _ _ _ (λ l h. c .before .before .before .before .before .before .before .before .before .before .before .before .before .before .before .before .before .before .before .before .before .before .before .before .before .before .before .before .before .before .before .lowest .ensures .answer _ _ _ _ _ (h .lists)) (c .before .before .before .before .before .before .before .before .before .before .before .before .before .before .before .before .before .before .before .before .before .before .before .before .before .before .before .before .before .before .if1 .left) _ _ refl refl _ _ (c .before .before .before .before .before .before .before .before .before .before .before .before .before .before .before .before .before .before .let-go .ensures)

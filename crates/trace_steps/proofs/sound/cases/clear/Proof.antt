@@ -1,6 +1,6 @@
 -- Clearing makes the tables anew.
 use mathlib.Core.Path.{refl}
-use Rattle.lfu.proofs.News as news
+use Rattle.lfu_whole.proofs.News as news
 use Rattle.trace_steps.proofs.Telling.{clear-tells}
 use Rattle.trace_steps.proofs.sound.cases.clear.Statement.{statement}
 use Rattle.trace_steps.proofs.sound.cases.clear.Tie as tie
