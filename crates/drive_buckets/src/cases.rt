@@ -1,0 +1,134 @@
+// The operations that are not about one key: on every key, on epochs, and those that only answer. Each function has those of its kind, and
+// sends the others on. The tables have the names of lib.rt.
+ghost use Rattle.frequency_tables.specs.Tables.{tables};
+ghost use Rattle.drive_buckets.specs.Calls.{queryCall, epochCall, wholeCall, Drives};
+use crate::after::dated;
+use drive_lines::Driven;
+use drive_lines::Told;
+use drive_lines::after::stays;
+use drive_lines::after::stored;
+use drive_lines::asked;
+use drive_lines::count;
+use drive_lines::epoch;
+use drive_lines::least;
+use drive_lines::level;
+use drive_lines::plain;
+use frequency_epochs::advance_epoch;
+use frequency_epochs::set_entry_epoch;
+use frequency_epochs::set_epoch;
+use frequency_queries::contains;
+use frequency_queries::current_epoch;
+use frequency_queries::entry_epoch;
+use frequency_queries::frequency;
+use frequency_queries::is_empty;
+use frequency_queries::len;
+use frequency_queries::min_freq;
+use frequency_queries::peek_min;
+use frequency_tables::State;
+use frequency_whole::clear;
+use frequency_whole::decay_halve;
+use frequency_whole::rebase_min_freq;
+use numbers::Key;
+use trace::Word;
+
+// 6 to 9, 11 and 14 to 16: the operations that only answer. Any other is BAD.
+pub(crate) fn asks(
+    k: &[u64],
+    f: &[u64],
+    e: &[u64],
+    p: &[u64],
+    n: &[u64],
+    ar: &[u64],
+    ix: &[u64],
+    bk: &[u64],
+    sp: &[u64],
+    state: State,
+    code: u8,
+    a: u64,
+) -> Told
+    ensures { λ r. ⌜ Drives (queryCall code a) (tables (now (k .entry)) (now (f .entry)) (now (e .entry)) (now (p .entry)) (now (n .entry)) (now (ar .entry)) (now (ix .entry)) (now (bk .entry)) (now (sp .entry))) state r (tables (now (k .entry)) (now (f .entry)) (now (e .entry)) (now (p .entry)) (now (n .entry)) (now (ar .entry)) (now (ix .entry)) (now (bk .entry)) (now (sp .entry))) state ⌝ }
+{
+    match code {
+        6 => least(peek_min(k, f, e, p, n, ar, ix, bk, sp, state)),
+        7 => level(min_freq(k, f, e, p, n, ar, ix, bk, sp, state)),
+        8 => level(frequency(k, f, e, p, n, ar, ix, bk, sp, state, Key(a))),
+        9 => epoch(entry_epoch(k, f, e, p, n, ar, ix, bk, sp, state, Key(a))),
+        11 => epoch(current_epoch(k, f, e, p, n, ar, ix, bk, sp, state)),
+        14 => count(len(k, f, e, p, n, ar, ix, bk, sp, state)),
+        15 => asked(is_empty(k, f, e, p, n, ar, ix, bk, sp, state)),
+        16 => asked(contains(k, f, e, p, n, ar, ix, bk, sp, state, Key(a))),
+        _ => Told::Just(Word::Bad),
+    }
+}
+
+// 10, 12 and 13: the operations that set an epoch.
+pub(crate) fn dates(
+    k: &[u64],
+    f: &[u64],
+    e: &mut [u64],
+    p: &[u64],
+    n: &[u64],
+    ar: &[u64],
+    ix: &[u64],
+    bk: &[u64],
+    sp: &[u64],
+    state: State,
+    code: u8,
+    a: u64,
+    b: u64,
+) -> Driven
+    ensures { λ r. ⌜ Drives (epochCall code a b) (tables (now (k .entry)) (now (f .entry)) (now (e .entry)) (now (p .entry)) (now (n .entry)) (now (ar .entry)) (now (ix .entry)) (now (bk .entry)) (now (sp .entry))) state (r .told) (tables (now (k .entry)) (now (f .entry)) (now (e .exit)) (now (p .entry)) (now (n .entry)) (now (ar .entry)) (now (ix .entry)) (now (bk .entry)) (now (sp .entry))) (r .state) ⌝ }
+{
+    match code {
+        10 => stays(
+            state,
+            plain(set_entry_epoch(k, f, e, p, n, ar, ix, bk, sp, state, Key(a), b)),
+        ),
+        12 => stored(set_epoch(k, f, &e[..], p, n, ar, ix, bk, sp, state, a)),
+        13 => dated(advance_epoch(k, f, &e[..], p, n, ar, ix, bk, sp, state)),
+        _ => stays(
+            state,
+            asks(k, f, &e[..], p, n, ar, ix, bk, sp, state, code, a),
+        ),
+    }
+}
+
+// 17 to 19: the operations on every key.
+pub(crate) fn whole(
+    k: &mut [u64],
+    f: &mut [u64],
+    e: &mut [u64],
+    p: &mut [u64],
+    n: &mut [u64],
+    ar: &mut [u64],
+    ix: &mut [u64],
+    bk: &mut [u64],
+    sp: &mut [u64],
+    state: State,
+    code: u8,
+    a: u64,
+    b: u64,
+) -> Driven
+    ensures { λ r. ⌜ Drives (wholeCall code a b) (tables (now (k .entry)) (now (f .entry)) (now (e .entry)) (now (p .entry)) (now (n .entry)) (now (ar .entry)) (now (ix .entry)) (now (bk .entry)) (now (sp .entry))) state (r .told) (tables (now (k .exit)) (now (f .exit)) (now (e .exit)) (now (p .exit)) (now (n .exit)) (now (ar .exit)) (now (ix .exit)) (now (bk .exit)) (now (sp .exit))) (r .state) ⌝ }
+{
+    match code {
+        17 => stored(decay_halve(k, f, e, p, n, ar, ix, bk, sp, state)),
+        18 => stored(rebase_min_freq(k, f, e, p, n, ar, ix, bk, sp, state)),
+        19 => stored(clear(k, f, e, p, n, ar, ix, &bk[..], sp, state)),
+        _ => dates(
+            &k[..],
+            &f[..],
+            e,
+            &p[..],
+            &n[..],
+            &ar[..],
+            &ix[..],
+            &bk[..],
+            &sp[..],
+            state,
+            code,
+            a,
+            b,
+        ),
+    }
+}

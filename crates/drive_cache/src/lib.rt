@@ -1,0 +1,134 @@
+// The cache's operations of `drive`: each is one public call, and what is told of its answer. The tables are named k f e p n ar ix bk sp vs:
+// keys, freqs, epochs, prevs, nexts, arena, index, buckets, spares and values.
+ghost use mathlib.Core.Path.{_≡_};
+ghost use Rattle.frequency_tables.specs.Tables.{tables};
+ghost use Rattle.frequency_reads.specs.Replies.{countReply};
+ghost use Rattle.lfu_tables.specs.Tables.{withValues};
+ghost use Rattle.drive_lines.specs.Lines.{text, replyText};
+ghost use Rattle.drive_cache.specs.Operations.{question, cacheCall, batchCall, Drives, DrivesAll};
+use drive_lines::Driven;
+use drive_lines::Told;
+use drive_lines::after::evicted;
+use drive_lines::after::inserted;
+use drive_lines::after::leveled;
+use drive_lines::after::stored;
+use drive_lines::after::valued;
+use drive_lines::cached::least;
+use drive_lines::cached::value;
+use drive_lines::count;
+use frequency_tables::State;
+use lfu::evict_min_freq;
+use lfu::get;
+use lfu::insert;
+use lfu::remove;
+use lfu::reset_frequency;
+use lfu_batches::Counted;
+use lfu_batches::insert_batch;
+use lfu_batches::remove_batch;
+use lfu_batches::touch_batch;
+use lfu_queries::len;
+use lfu_queries::peek;
+use lfu_queries::peek_lfu;
+use lfu_whole::clear;
+use numbers::Key;
+use trace::Word;
+
+// The operations that only answer; any other is BAD.
+pub fn asks(
+    k: &[u64],
+    f: &[u64],
+    e: &[u64],
+    p: &[u64],
+    n: &[u64],
+    ar: &[u64],
+    ix: &[u64],
+    bk: &[u64],
+    sp: &[u64],
+    vs: &[u64],
+    state: State,
+    code: u8,
+    a: u64,
+) -> Told
+    ensures { λ r. ⌜ Drives (question code a) (withValues (tables (now (k .entry)) (now (f .entry)) (now (e .entry)) (now (p .entry)) (now (n .entry)) (now (ar .entry)) (now (ix .entry)) (now (bk .entry)) (now (sp .entry))) (now (vs .entry))) state r (withValues (tables (now (k .entry)) (now (f .entry)) (now (e .entry)) (now (p .entry)) (now (n .entry)) (now (ar .entry)) (now (ix .entry)) (now (bk .entry)) (now (sp .entry))) (now (vs .entry))) state ⌝ }
+{
+    match code {
+        42 => value(peek(k, f, e, p, n, ar, ix, bk, sp, vs, state, Key(a))),
+        45 => least(peek_lfu(k, f, e, p, n, ar, ix, bk, sp, vs, state)),
+        48 => count(len(k, f, e, p, n, ar, ix, bk, sp, vs, state)),
+        _ => Told::Just(Word::Bad),
+    }
+}
+
+// One operation on a key, or on the whole cache.
+pub fn act(
+    k: &mut [u64],
+    f: &mut [u64],
+    e: &mut [u64],
+    p: &mut [u64],
+    n: &mut [u64],
+    ar: &mut [u64],
+    ix: &mut [u64],
+    bk: &mut [u64],
+    sp: &mut [u64],
+    vs: &mut [u64],
+    state: State,
+    code: u8,
+    a: u64,
+    b: u64,
+) -> Driven
+    ensures { λ r. ⌜ Drives (cacheCall code a b) (withValues (tables (now (k .entry)) (now (f .entry)) (now (e .entry)) (now (p .entry)) (now (n .entry)) (now (ar .entry)) (now (ix .entry)) (now (bk .entry)) (now (sp .entry))) (now (vs .entry))) state (r .told) (withValues (tables (now (k .exit)) (now (f .exit)) (now (e .exit)) (now (p .exit)) (now (n .exit)) (now (ar .exit)) (now (ix .exit)) (now (bk .exit)) (now (sp .exit))) (now (vs .exit))) (r .state) ⌝ }
+{
+    match code {
+        40 => inserted(insert(k, f, e, p, n, ar, ix, bk, sp, vs, state, Key(a), b)),
+        41 => valued(get(k, f, e, p, n, ar, ix, bk, sp, vs, state, Key(a))),
+        43 => valued(remove(k, f, e, p, n, ar, ix, bk, sp, vs, state, Key(a))),
+        44 => stored(clear(k, f, e, p, n, ar, ix, bk, sp, vs, state)),
+        46 => evicted(evict_min_freq(k, f, e, p, n, ar, ix, bk, sp, vs, state)),
+        47 => leveled(reset_frequency(k, f, e, p, n, ar, ix, bk, sp, vs, state, Key(a))),
+        _ => Driven {
+            told: asks(k, f, e, p, n, ar, ix, bk, sp, vs, state, code, a),
+            state: state,
+        },
+    }
+}
+
+// The line and the state after a batch.
+fn counted(done: Counted) -> Driven
+    ensures { λ r. ⌜ (text (r .told) ≡ replyText (countReply (done .answer))) × (r .state ≡ done .state) ⌝ }
+{
+    let answer = done.answer;
+    let state = done.state;
+    Driven {
+        told: count(answer),
+        state: state,
+    }
+}
+
+// One operation on several keys. A key that is inserted is its own value.
+pub fn batch(
+    k: &mut [u64],
+    f: &mut [u64],
+    e: &mut [u64],
+    p: &mut [u64],
+    n: &mut [u64],
+    ar: &mut [u64],
+    ix: &mut [u64],
+    bk: &mut [u64],
+    sp: &mut [u64],
+    vs: &mut [u64],
+    state: State,
+    items: &[u64],
+    code: u8,
+) -> Driven
+    ensures { λ r. ⌜ DrivesAll (batchCall code (now (items .entry))) (withValues (tables (now (k .entry)) (now (f .entry)) (now (e .entry)) (now (p .entry)) (now (n .entry)) (now (ar .entry)) (now (ix .entry)) (now (bk .entry)) (now (sp .entry))) (now (vs .entry))) state (r .told) (withValues (tables (now (k .exit)) (now (f .exit)) (now (e .exit)) (now (p .exit)) (now (n .exit)) (now (ar .exit)) (now (ix .exit)) (now (bk .exit)) (now (sp .exit))) (now (vs .exit))) (r .state) ⌝ }
+{
+    match code {
+        63 => counted(insert_batch(k, f, e, p, n, ar, ix, bk, sp, vs, state, items, items)),
+        64 => counted(remove_batch(k, f, e, p, n, ar, ix, bk, sp, vs, state, items)),
+        65 => counted(touch_batch(k, f, e, p, n, ar, ix, bk, sp, vs, state, items)),
+        _ => Driven {
+            told: Told::Just(Word::Bad),
+            state: state,
+        },
+    }
+}

@@ -1,0 +1,43 @@
+-- By the answer's case.
+use Rattle.drive_lines.specs.Lines.{insertionText}
+use mathlib.Core.Path.{sym, ap}
+use borrow.Author.Needs.{needs}
+use Rattle.drive_lines.proofs.cached.insertion.Statement.{statement}
+use Rattle.drive_lines.proofs.cached.insertion.Tie as tie
+
+enum-told : tie.Need-enum-told
+enum-told c = search needs
+
+enum-known-answer : tie.Need-enum-known-answer
+enum-known-answer c = search needs
+
+enum-known-answer-2 : tie.Need-enum-known-answer-2
+enum-known-answer-2 c = search needs
+
+enum-known-answer-3 : tie.Need-enum-known-answer-3
+enum-known-answer-3 c = search needs
+
+returns : tie.Need-returns
+returns c = sym (ap insertionText (c .enum-told .given .1))
+
+returns-2 : tie.Need-returns-2
+returns-2 c = sym (ap insertionText (c .before .answer .given .1))
+
+returns-3 : tie.Need-returns-3
+returns-3 c = sym (ap insertionText (c .before .answer2 .given .1))
+
+returns-4 : tie.Need-returns-4
+returns-4 c = sym (ap insertionText (c .before .answer3 .given .1))
+
+pub insertion-spec : {M : Type 1} → statement M
+insertion-spec =
+    tie.close
+    (tie.spec
+    enum-told
+    enum-known-answer
+    enum-known-answer-2
+    enum-known-answer-3
+    returns
+    returns-2
+    returns-3
+    returns-4)
