@@ -1,67 +1,30 @@
--- What a turn and a run ask of their buffers and tables: lengths, and that they stay.
+-- Every turn leaves the tables sound, and all lengths as they were.
 use mathlib.Core.Path.{_≡_, sym, _∙_}
-use mathlib.Core.List.{List, _++_}
-use Prim.Native.Nat.{ℕ, _+_, _*_, _≤_}
-use native.Mathlib.Omega.{arith}
-use lib.ListN.{length, take, drop, replicate, length-replicate}
-use lib.Seq.{length-take-le, length-front}
-use Rattle.frequency_tables.specs.Tables.{tables}
-use Rattle.frequency_tables.specs.Calls.{Fitting}
-use Rattle.frequency_rebuild.proofs.Renewed.{sized-fitting}
-use Rattle.lfu_tables.specs.Tables.{withValues}
-use Rattle.trace.specs.Output.{SLOTS}
-use Rattle.replay.specs.Feeding.{PRINT, Sizes}
+use mathlib.Core.Bool.{Bool, true, false}
+use mathlib.Core.List.{List}
+use Prim.Native.Nat.{ℕ}
+use borrow.Author.Tests.{eqb-true}
+use Rattle.lists.proofs.Tests.{neither}
+use lib.ListN.{length, take}
+use Rattle.frequency_tables.specs.declared.State.{State}
+use Rattle.lfu_tables.specs.Tables.{CacheTables, CacheSound}
+use Rattle.trace_parts.specs.Feeding.{partRun}
+use Rattle.trace_parts.specs.Parts.{PART}
+use Rattle.trace_parts.proofs.Feeding.{SameSizes}
+use Rattle.replay.specs.declared.Turned.{Turned}
+use Rattle.replay.specs.Turns.{goesOn, Turns}
 
--- how much is read at a time, and the length of the buffers
-abbrev pub PART : ℕ
-PART = 21845
+-- a turn that is not the last read a full part
+pub more-full : (written : Bool) (n : ℕ) (r : Bool) → r ≡ goesOn written n → r ≡ true → n ≡ PART
+more-full true n r e more = eqb-true n PART (sym e ∙ more)
+more-full false n r e more = absurd (neither r more e)
 
-abbrev pub LARGE : ℕ
-LARGE = 65536
+pub turn-sound : (t : CacheTables) (s : State) (input : List ℕ) (t' : CacheTables) (out' : List ℕ) (r : Turned) → Turns t s input t' out' r → CacheSound t s → CacheSound t' (r .state)
+turn-sound t s input t' out' r turns w = (partRun (w .0) (take (r .read) input) .cache, turns .parts .prints (w .0) (w .1) .holds)
 
-module _ (input : List ℕ) (large : LARGE ≡ length input) where
-  pub part-size : PART ≡ length (take PART input)
-  part-size = sym (length-take-le PART input (omega arith))
-
-  module _ (got : List ℕ) (kept : length got ≡ length (take PART input)) where
-    -- the buffer with what was read at its start
-    pub buffer-size : LARGE ≡ length (got ++ drop PART input)
-    buffer-size = large ∙ sym (length-front input got PART kept)
-
-    pub part-fits : (n : ℕ) (out : List ℕ) → LARGE ≡ length out → n ≤ length got → (n ≤ length (got ++ drop PART input)) × (n * PRINT ≤ length out)
-    part-fits n out wide h =
-        let size = part-size in
-        let whole = buffer-size in
-        (omega arith, omega arith)
-
-module _ (k f e p n a i b sp vs : List ℕ) (c : ℕ) (s : Sizes (withValues (tables k f e p n a i b sp) vs) c) where
-  pub sizes-fit : Fitting k f e p n a i sp c × (length vs ≡ c)
-  sizes-fit = (sized-fitting (tables k f e p n a i b sp) c (s .limit) (s .base), s .values)
-
--- the first places of an array of zeros
-abbrev zeros : (m c : ℕ) → List ℕ
-zeros m c = take c (replicate m 0)
-
-pub zeros-size : (m c : ℕ) → c ≤ m → c ≡ length (zeros m c)
-zeros-size m c h = sym (length-take-le c (replicate m 0) (rw length-replicate h))
-
--- the tables that are lent of the program's arrays
-pub start-sizes : (c : ℕ) → c ≤ SLOTS →
-    Sizes (withValues (tables (zeros 256 c) (zeros 256 c) (zeros 256 c) (zeros 256 c) (zeros 256 c) (zeros 256 c) (zeros 512 (c + c)) (zeros 1536 (c * 6)) (zeros 256 c)) (zeros 256 c)) c
-start-sizes c h =
-    let same = sym (zeros-size 256 c h) in
-    record {
-      limit = omega arith;
-      base = record {
-        keys-size = same;
-        freqs-size = same;
-        epochs-size = same;
-        prevs-size = same;
-        nexts-size = same;
-        arena-size = same;
-        index-size = sym (zeros-size 512 (c + c) (omega arith));
-        buckets-size = sym (zeros-size 1536 (c * 6) (omega arith));
-        spares-size = same;
-      };
-      values = same;
-    }
+-- the loop
+pub record Running (t₀ : CacheTables) (input₀ out₀ : List ℕ) (t : CacheTables) (s : State) (input out : List ℕ) : Type 0 where
+  pub sound : CacheSound t s
+  pub sizes : SameSizes t₀ t
+  pub input-size : length input ≡ length input₀
+  pub out-size : length out ≡ length out₀

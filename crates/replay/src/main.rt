@@ -1,27 +1,17 @@
 // Replays a trace: reads the capacity and the records from standard input, and prints a line for each record. A read that fails ends the
 // input; output that cannot be written ends the program.
-ghost use mathlib.Core.Path.{_≡_};
-ghost use Prim.Native.Nat.{_<_};
-ghost use Rattle.replay.specs.Feeding.{lastOf};
 use frequency_tables::State;
 use trace::Line;
 use trace::Word;
+use trace_parts::two_bytes;
 
 mod sound;
 
-// How many bytes are read at a time: whole records, whose lines fit into the kit's large buffer.
-pub const PART: usize = 21845;
-
-// Where the printed bytes end, where the next record begins, and the state after the records so far.
-pub struct Fed {
-    pub at: usize,
-    pub next: usize,
-    pub state: State,
-}
-
-// Whether there is more to read, and the state after what was read.
+// Whether there is more to read, how many bytes were read and how many printed, and the state after them.
 pub struct Turned {
     pub more: bool,
+    pub read: usize,
+    pub at: usize,
     pub state: State,
 }
 
@@ -32,35 +22,6 @@ fn say(line: Line) -> bool {
     io::write_all(1, &out[..n])
 }
 
-// The line at the end of the input: inside a record, or at a record's end, where it counts the bound keys.
-fn last_line(left: usize, count: u64) -> Line
-    ensures { λ r. ⌜ r ≡ lastOf left count ⌝ }
-{
-    if left > 0 {
-        return Line::Plain(Word::Cut);
-    }
-    Line::One(Word::End, count)
-}
-
-// Whether there is more to read. At the end of the input the last line is printed, where the lines before it could be written.
-pub fn conclude(written: bool, n: usize, left: usize, count: u64) -> bool {
-    if !written {
-        return false;
-    }
-    if n == PART {
-        return true;
-    }
-    say(last_line(left, count));
-    false
-}
-
-// A byte as a number.
-fn wide(x: u8) -> usize
-    ensures { λ r. ⌜ (r ≡ x) × (r < 256) ⌝ }
-{
-    x as usize
-}
-
 fn main() {
     let mut first = [0u8; 2];
     let n = io::read_full(0, &mut first);
@@ -68,7 +29,7 @@ fn main() {
         say(Line::Plain(Word::Cut));
         return;
     }
-    let capacity = wide(first[0]) + 256 * wide(first[1]);
+    let capacity = two_bytes(first[0], first[1]);
     if capacity > 256 {
         say(Line::Plain(Word::Capacity));
         return;

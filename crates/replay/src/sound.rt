@@ -1,90 +1,25 @@
-// The records of a trace on tables that are known to be sound: a part of the input that was read is carried out record by record, and
-// what it prints is written into a lent buffer.
+// The turns of a replay on tables that are known to be sound: a part of the input is read, carried out, and what it prints is written.
 ghost use mathlib.Core.Path.{_≡_};
-ghost use Prim.Native.Nat.{_+_, _*_, _≤_};
-ghost use lib.ListN.{length, take, drop};
+ghost use Prim.Native.Nat.{_≤_};
 ghost use Rattle.frequency_tables.specs.Tables.{tables};
 ghost use Rattle.lfu_tables.specs.Tables.{withValues, CacheSound};
-ghost use Rattle.replay.specs.Feeding.{Feeds, Sizes, PRINT};
-ghost use Rattle.trace.specs.Output.{little, SLOTS};
-use crate::Fed;
-use crate::PART;
+ghost use Rattle.trace.specs.Output.{SLOTS};
+ghost use Rattle.trace_parts.specs.Feeding.{Sizes};
+ghost use Rattle.trace_parts.specs.Parts.{Buffers};
+ghost use Rattle.replay.specs.Turns.{Turns, goesOn};
 use crate::Turned;
-use crate::conclude;
+use bucket_table::WORDS;
 use frequency_tables::State;
-use numbers::Key;
+use trace_parts::PART;
 
-// How many bytes a record has.
-pub const RECORD: usize = 17;
-
-// A number from eight bytes, low byte first.
-fn number(bytes: &[u8], at: usize) -> u64
-    requires { ⌜ at + 8 ≤ length (now bytes) ⌝ }
-    ensures { λ r. ⌜ r ≡ little (take 8 (drop at (now (bytes .entry)))) ⌝ }
+// A part that is not full is the last. Nothing more is read where nothing can be written.
+fn goes_on(written: bool, n: usize) -> bool
+    ensures { λ r. ⌜ r ≡ goesOn written n ⌝ }
 {
-    let mut n: u64 = 0;
-    let mut j: usize = 8;
-    while j > 0 {
-        j -= 1;
-        n = n * 256 + bytes[at + j] as u64;
+    if written {
+        return n == PART;
     }
-    n
-}
-
-// Carries out the whole records among the first bytes of an input. Each record prints at most three bytes for each of its own.
-pub fn feed(
-    keys: &mut [u64],
-    freqs: &mut [u64],
-    epochs: &mut [u64],
-    prevs: &mut [u64],
-    nexts: &mut [u64],
-    arena: &mut [u64],
-    index: &mut [u64],
-    buckets: &mut [u64],
-    spares: &mut [u64],
-    values: &mut [u64],
-    state: State,
-    input: &[u8],
-    n: usize,
-    out: &mut [u8],
-) -> Fed
-    requires { ⌜ CacheSound (withValues (tables (now keys) (now freqs) (now epochs) (now prevs) (now nexts) (now arena) (now index) (now buckets) (now spares)) (now values)) state × (n ≤ length (now input)) × (n * PRINT ≤ length (now out)) ⌝ }
-    ensures { λ r. ⌜ Feeds (withValues (tables (now (keys .entry)) (now (freqs .entry)) (now (epochs .entry)) (now (prevs .entry)) (now (nexts .entry)) (now (arena .entry)) (now (index .entry)) (now (buckets .entry)) (now (spares .entry))) (now (values .entry))) state (now (input .entry)) n (withValues (tables (now (keys .exit)) (now (freqs .exit)) (now (epochs .exit)) (now (prevs .exit)) (now (nexts .exit)) (now (arena .exit)) (now (index .exit)) (now (buckets .exit)) (now (spares .exit))) (now (values .exit))) (now (out .exit)) r ⌝ }
-{
-    let mut at: usize = 0;
-    let mut next: usize = 0;
-    let mut after = state;
-    while n - next >= RECORD {
-        let code = input[next];
-        let key = Key(number(input, next + 1));
-        let value = number(input, next + 9);
-        let stepped = trace_steps::sound::step(
-            keys,
-            freqs,
-            epochs,
-            prevs,
-            nexts,
-            arena,
-            index,
-            buckets,
-            spares,
-            values,
-            after,
-            code,
-            key,
-            value,
-            out,
-            at,
-        );
-        at = stepped.at;
-        after = stepped.state;
-        next += RECORD;
-    }
-    Fed {
-        at: at,
-        next: next,
-        state: after,
-    }
+    false
 }
 
 // Reads a part of the input, carries out its records, and writes what they print.
@@ -100,14 +35,14 @@ fn turn(
     spares: &mut [u64],
     values: &mut [u64],
     state: State,
+    input: &mut [u8],
+    out: &mut [u8],
 ) -> Turned
-    requires { ⌜ CacheSound (withValues (tables (now keys) (now freqs) (now epochs) (now prevs) (now nexts) (now arena) (now index) (now buckets) (now spares)) (now values)) state ⌝ }
-    ensures { λ r. ⌜ CacheSound (withValues (tables (now (keys .exit)) (now (freqs .exit)) (now (epochs .exit)) (now (prevs .exit)) (now (nexts .exit)) (now (arena .exit)) (now (index .exit)) (now (buckets .exit)) (now (spares .exit))) (now (values .exit))) (r .state) ⌝ }
+    requires { ⌜ CacheSound (withValues (tables (now keys) (now freqs) (now epochs) (now prevs) (now nexts) (now arena) (now index) (now buckets) (now spares)) (now values)) state × Buffers (now input) (now out) ⌝ }
+    ensures { λ r. ⌜ Turns (withValues (tables (now (keys .entry)) (now (freqs .entry)) (now (epochs .entry)) (now (prevs .entry)) (now (nexts .entry)) (now (arena .entry)) (now (index .entry)) (now (buckets .entry)) (now (spares .entry))) (now (values .entry))) state (now (input .exit)) (withValues (tables (now (keys .exit)) (now (freqs .exit)) (now (epochs .exit)) (now (prevs .exit)) (now (nexts .exit)) (now (arena .exit)) (now (index .exit)) (now (buckets .exit)) (now (spares .exit))) (now (values .exit))) (now (out .exit)) r ⌝ }
 {
-    let mut input = io::large_buffer();
-    let mut out = io::large_buffer();
     let n = io::read_full(0, &mut input[..PART]);
-    let fed = feed(
+    let printed = trace_parts::sound::part(
         keys,
         freqs,
         epochs,
@@ -119,23 +54,24 @@ fn turn(
         spares,
         values,
         state,
-        &input,
+        &input[..],
         n,
-        &mut out,
+        out,
     );
-    let at = fed.at;
-    let after = fed.state;
+    let at = printed.at;
+    let after = printed.state;
     let written = io::write_all(1, &out[..at]);
-    let more = conclude(written, n, n - fed.next, after.count);
     Turned {
-        more: more,
+        more: goes_on(written, n),
+        read: n,
+        at: at,
         state: after,
     }
 }
 
 // Replays the records of standard input on tables of a capacity, which may have held anything. What a read gives is not known, so the
 // loop counts its turns down, from a number that no run uses up.
-pub fn run(
+fn run(
     keys: &mut [u64],
     freqs: &mut [u64],
     epochs: &mut [u64],
@@ -147,8 +83,10 @@ pub fn run(
     spares: &mut [u64],
     values: &mut [u64],
     capacity: u64,
+    input: &mut [u8],
+    out: &mut [u8],
 )
-    requires { ⌜ Sizes (withValues (tables (now keys) (now freqs) (now epochs) (now prevs) (now nexts) (now arena) (now index) (now buckets) (now spares)) (now values)) capacity ⌝ }
+    requires { ⌜ Sizes (withValues (tables (now keys) (now freqs) (now epochs) (now prevs) (now nexts) (now arena) (now index) (now buckets) (now spares)) (now values)) capacity × Buffers (now input) (now out) ⌝ }
 {
     let mut after = lfu_whole::sound::make(
         keys,
@@ -177,6 +115,8 @@ pub fn run(
             spares,
             values,
             after,
+            input,
+            out,
         );
         after = turned.state;
         more = turned.more;
@@ -198,8 +138,10 @@ pub fn start(capacity: usize)
     let mut buckets = [0u64; 1536];
     let mut spares = [0u64; 256];
     let mut values = [0u64; 256];
+    let mut input = io::large_buffer();
+    let mut out = io::large_buffer();
     let twice = capacity + capacity;
-    let words = capacity * 6;
+    let words = capacity * WORDS as usize;
     run(
         &mut keys[..capacity],
         &mut freqs[..capacity],
@@ -212,5 +154,7 @@ pub fn start(capacity: usize)
         &mut spares[..capacity],
         &mut values[..capacity],
         capacity as u64,
+        &mut input,
+        &mut out,
     )
 }

@@ -2,48 +2,47 @@
 use Rattle.drive_cache.proofs.Driving.{called, bound, acted, acted-else}
 use Rattle.ledger.specs.History.{Get, Remove, Reset, Evict, Clear}
 use mathlib.Core.Path.{refl}
-use borrow.Author.Needs.{needs}
 use Rattle.drive_cache.proofs.act.Statement.{statement}
 use Rattle.drive_cache.proofs.act.Tie as tie
 
 insert-requires : tie.Need-insert-requires
-insert-requires c κs = search needs
+insert-requires c κs = tt
 
 inserted-requires : tie.Need-inserted-requires
-inserted-requires c κs = search needs
+inserted-requires c κs = tt
 
 get-requires : tie.Need-get-requires
-get-requires c κs = search needs
+get-requires c κs = tt
 
 valued-requires : tie.Need-valued-requires
-valued-requires c κs = search needs
+valued-requires c κs = tt
 
 remove-requires : tie.Need-remove-requires
-remove-requires c κs = search needs
+remove-requires c κs = tt
 
 valued-requires-2 : tie.Need-valued-requires-2
-valued-requires-2 c κs = search needs
+valued-requires-2 c κs = tt
 
 clear-requires : tie.Need-clear-requires
-clear-requires c κs = search needs
+clear-requires c κs = tt
 
 stored-requires : tie.Need-stored-requires
-stored-requires c κs = search needs
+stored-requires c κs = tt
 
 evict-min-freq-requires : tie.Need-evict-min-freq-requires
-evict-min-freq-requires c κs = search needs
+evict-min-freq-requires c κs = tt
 
 evicted-requires : tie.Need-evicted-requires
-evicted-requires c κs = search needs
+evicted-requires c κs = tt
 
 reset-frequency-requires : tie.Need-reset-frequency-requires
-reset-frequency-requires c κs = search needs
+reset-frequency-requires c κs = tt
 
 leveled-requires : tie.Need-leveled-requires
-leveled-requires c κs = search needs
+leveled-requires c κs = tt
 
 asks-requires : tie.Need-asks-requires
-asks-requires c κs = search needs
+asks-requires c κs = tt
 
 same-length : tie.Need-same-length
 same-length c = c .before .before .before .before .before .before .before .before .before .before .before .before .before .before .before .before .before .before .before .before .before .insert .kept .0

@@ -2,27 +2,26 @@
 use Rattle.drive_cache.proofs.Driving.{called, asked, asked-none}
 use Rattle.ledger.specs.History.{Peek, PeekLfu, Len}
 use mathlib.Core.Path.{refl}
-use borrow.Author.Needs.{needs}
 use Rattle.drive_cache.proofs.asks.Statement.{statement}
 use Rattle.drive_cache.proofs.asks.Tie as tie
 
 peek-requires : tie.Need-peek-requires
-peek-requires c κs = search needs
+peek-requires c κs = tt
 
 value-requires : tie.Need-value-requires
-value-requires c κs = search needs
+value-requires c κs = tt
 
 peek-lfu-requires : tie.Need-peek-lfu-requires
-peek-lfu-requires c κs = search needs
+peek-lfu-requires c κs = tt
 
 least-requires : tie.Need-least-requires
-least-requires c κs = search needs
+least-requires c κs = tt
 
 len-requires : tie.Need-len-requires
-len-requires c κs = search needs
+len-requires c κs = tt
 
 count-requires : tie.Need-count-requires
-count-requires c κs = search needs
+count-requires c κs = tt
 
 returns : tie.Need-returns
 returns c = asked _ _ _ _ _ _ 42 (c .before .before .match .keys1) _ (called _ _ _ _ _ _ refl (Peek _) _ (c .value .ensures) (c .before .peek .ensures))

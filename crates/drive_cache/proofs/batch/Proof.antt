@@ -2,27 +2,26 @@
 use Rattle.drive_cache.proofs.Driving.{batched, acted-all, acted-none}
 use denote.Ref.{now}
 use mathlib.Core.Path.{refl}
-use borrow.Author.Needs.{needs}
 use Rattle.drive_cache.proofs.batch.Statement.{statement}
 use Rattle.drive_cache.proofs.batch.Tie as tie
 
 insert-batch-requires : tie.Need-insert-batch-requires
-insert-batch-requires c κs = search needs
+insert-batch-requires c κs = tt
 
 counted-requires : tie.Need-counted-requires
-counted-requires c κs = search needs
+counted-requires c κs = tt
 
 remove-batch-requires : tie.Need-remove-batch-requires
-remove-batch-requires c κs = search needs
+remove-batch-requires c κs = tt
 
 counted-requires-2 : tie.Need-counted-requires-2
-counted-requires-2 c κs = search needs
+counted-requires-2 c κs = tt
 
 touch-batch-requires : tie.Need-touch-batch-requires
-touch-batch-requires c κs = search needs
+touch-batch-requires c κs = tt
 
 counted-requires-3 : tie.Need-counted-requires-3
-counted-requires-3 c κs = search needs
+counted-requires-3 c κs = tt
 
 same-length : tie.Need-same-length
 same-length c = c .before .before .before .before .before .before .before .before .before .before .before .before .before .before .before .before .before .before .before .before .before .insert-batch .kept .0

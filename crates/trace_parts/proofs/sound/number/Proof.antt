@@ -1,9 +1,9 @@
 -- From the last byte to the first.
-use Rattle.replay.proofs.Numbers.{Reading, reading-start, reading-fits, reading-more, reading-end}
+use Rattle.trace_parts.proofs.Numbers.{Reading, reading-start, reading-fits, reading-more, reading-end}
 use native.Mathlib.Omega.{arith}
 use Prim.Native.Nat.{_+_, _-_}
-use Rattle.replay.proofs.sound.number.Statement.{statement}
-use Rattle.replay.proofs.sound.number.Tie as tie
+use Rattle.trace_parts.proofs.sound.number.Statement.{statement}
+use Rattle.trace_parts.proofs.sound.number.Tie as tie
 
 abbrev Inv-loop : tie.InvT-loop
 Inv-loop bytes at n₀ j₀ n j = Reading bytes at n j

@@ -9,10 +9,10 @@ use Rattle.ledger.specs.Cache.{Cache}
 use Rattle.frequency_tables.specs.declared.State.{State}
 use Rattle.lfu_tables.specs.Tables.{CacheTables, CacheHolds, CacheSound}
 use Rattle.trace.specs.Lines.{text, step, LONGEST}
-use Rattle.trace.specs.Steps.{Prints}
+use Rattle.trace_steps.specs.Steps.{Prints}
 use Rattle.trace.specs.Output.{Run, run, RECORD, little, ended, runs}
 use Rattle.trace.proofs.Running.{runs-on, record-runs}
-use Rattle.replay.specs.Feeding.{PRINT, part, Fed-by, Feeds}
+use Rattle.trace_parts.specs.Feeding.{PRINT, part, Fed-by, Feeds}
 
 -- two bundles of tables have the same lengths
 pub record SameSizes (t t' : CacheTables) : Type 0 where
@@ -96,7 +96,7 @@ pub record Feeding (t : CacheTables) (s : State) (input : List ℕ) (n : ℕ) (o
   pub sizes : SameSizes t t'
   pub long : length out ≡ length out₀
   pub room : at ≤ next * PRINT
-  pub fed : (c : Cache) → CacheHolds t s c → Fed-by c input n t' out (record { at = at; next = next; state = s' })
+  pub fed : (c : Cache) → CacheHolds t s c → Fed-by c input t' out (record { at = at; next = next; state = s' })
 
 module _ (t : CacheTables) (s : State) (input : List ℕ) (n : ℕ) (out₀ : List ℕ) where
   pub feeding-start : Feeding t s input n out₀ t s out₀ 0 0
@@ -143,10 +143,10 @@ module _ (t : CacheTables) (s : State) (input : List ℕ) (n : ℕ) (out₀ : Li
           };
     }
 
-    pub feeding-end : n < next + RECORD → n * PRINT ≤ length out₀ → Feeds t s input n t' out (record { at = at; next = next; state = s' })
-    feeding-end less fits = record {
+    pub feeding-end : n < next + RECORD → Feeds t s input n t' out (record { at = at; next = next; state = s' })
+    feeding-end less = record {
       begun = so-far .begun;
       left = less;
-      room = let room = so-far .room in let long = so-far .long in let begun = so-far .begun in omega arith;
+      room = let room = so-far .room in let begun = so-far .begun in omega arith;
       fed = so-far .fed;
     }

@@ -2,7 +2,7 @@
 use mathlib.Core.Path.{_≡_}
 use mathlib.Core.Bool.{cond}
 use mathlib.Core.List.{List, []}
-use Prim.Native.Nat.{ℕ, _+_, _≤_, _<_}
+use Prim.Native.Nat.{ℕ, _+_, _*_, _≤_, _<_}
 use lib.Dec.{ltb}
 use lib.ListN.{length, take}
 use Rattle.numbers.specs.Marks.{LIMIT}
@@ -14,18 +14,22 @@ use Rattle.trace.specs.declared.Word.the-variants as word
 use Rattle.trace.specs.declared.Line.{Line}
 use Rattle.trace.specs.declared.Line.the-variants.{Plain, One}
 use Rattle.trace.specs.Output.{Run, run, RECORD, runs}
-use Rattle.replay.specs.declared.Fed.{Fed}
+use Rattle.trace_parts.specs.declared.Fed.{Fed}
 
 -- the most bytes that are printed for a byte of a record
 abbrev pub PRINT : ℕ
 PRINT = 3
 
--- what the first bytes of an input print, and the cache after them, from a cache at the end of a record
+-- a part of the input is read from a cache at the end of a record
+abbrev pub partRun : Cache → List ℕ → Run
+partRun c bs = runs (run [] c []) bs
+
+-- what the first bytes of an input print, and the cache after them
 abbrev pub part : Cache → (input : List ℕ) → ℕ → Run
-part c input m = runs (run [] c []) (take m input)
+part c input m = partRun c (take m input)
 
 -- the tables hold the cache after the whole records, which printed what stands in the buffer; less than a record is left
-pub record Fed-by (c : Cache) (input : List ℕ) (n : ℕ) (t' : CacheTables) (out' : List ℕ) (r : Fed) : Type 0 where
+pub record Fed-by (c : Cache) (input : List ℕ) (t' : CacheTables) (out' : List ℕ) (r : Fed) : Type 0 where
   pub printed : take (r .at) out' ≡ part c input (r .next) .printed
   pub whole : part c input (r .next) .pending ≡ []
   pub holds : CacheHolds t' (r .state) (part c input (r .next) .cache)
@@ -33,8 +37,8 @@ pub record Fed-by (c : Cache) (input : List ℕ) (n : ℕ) (t' : CacheTables) (o
 pub record Feeds (t : CacheTables) (s : State) (input : List ℕ) (n : ℕ) (t' : CacheTables) (out' : List ℕ) (r : Fed) : Type 0 where
   pub begun : r .next ≤ n
   pub left : n < r .next + RECORD
-  pub room : r .at ≤ length out'
-  pub fed : (c : Cache) → CacheHolds t s c → Fed-by c input n t' out' r
+  pub room : r .at ≤ n * PRINT
+  pub fed : (c : Cache) → CacheHolds t s c → Fed-by c input t' out' r
 
 -- the line at the end of the input: `left` bytes of a record that has not ended, and so many bound keys
 abbrev pub lastOf : (left count : ℕ) → Line

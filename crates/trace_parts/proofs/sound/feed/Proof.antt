@@ -1,12 +1,12 @@
 -- Record by record.
-use Rattle.replay.proofs.Feeding.{Feeding, feeding-start, feeding-sound, feeding-room, feeding-more, feeding-end}
+use Rattle.trace_parts.proofs.Feeding.{Feeding, feeding-start, feeding-sound, feeding-room, feeding-more, feeding-end}
 use Rattle.lfu_tables.specs.Tables.{withValues}
 use Rattle.frequency_tables.specs.Tables.{tables}
 use native.Mathlib.Omega.{arith}
 use Prim.Native.Nat.{_-_}
 use mathlib.Core.Path.{refl}
-use Rattle.replay.proofs.sound.feed.Statement.{statement}
-use Rattle.replay.proofs.sound.feed.Tie as tie
+use Rattle.trace_parts.proofs.sound.feed.Statement.{statement}
+use Rattle.trace_parts.proofs.sound.feed.Tie as tie
 
 abbrev Inv-loop : tie.InvT-loop
 Inv-loop keys₀ freqs₀ epochs₀ prevs₀ nexts₀ arena₀ index₀ buckets₀ spares₀ values₀ input n out₀ at₀ next₀ after₀ keys freqs epochs prevs nexts arena index buckets spares values out at next after =
@@ -82,7 +82,7 @@ same-length-11 : tie.Need-same-length-11 Inv-loop μ-loop
 same-length-11 c = c .before .loop .inv .long
 
 returns : tie.Need-returns Inv-loop μ-loop
-returns c = let begun = c .before .loop .inv .begun in let test = c .loop-test .left in feeding-end _ _ _ _ _ _ _ _ _ _ (c .before .loop .inv) (omega arith) (c .before .before .before .before .before .before .before .before .before .before .before .before .before .before .pre .2)
+returns c = let begun = c .before .loop .inv .begun in let test = c .loop-test .left in feeding-end _ _ _ _ _ _ _ _ _ _ (c .before .loop .inv) (omega arith)
 
 pub feed-spec : {M : Type 1} → statement M
 feed-spec =

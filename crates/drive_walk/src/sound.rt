@@ -1,0 +1,97 @@
+// Writing the walk of a frequency into a lent buffer: one check, and then a step for each item. The tables are named k f e p n ar ix bk sp:
+// keys, freqs, epochs, prevs, nexts, arena, index, buckets and spares.
+ghost use Prim.Native.Nat.{_+_, _*_, _≤_};
+ghost use lib.ListN.{length};
+ghost use Rattle.frequency_tables.specs.Tables.{tables};
+ghost use Rattle.frequency_walk.specs.Walks.{Walkable};
+ghost use Rattle.trace.specs.Lines.{DIGITS};
+ghost use Rattle.trace.specs.Written.{Spells};
+ghost use Rattle.drive_walk.specs.Walk.{behind, itemText, ITEM, WALK, Lists, Prints};
+use drive_lines::Told;
+use frequency_tables::State;
+use frequency_walk::Step;
+use frequency_walk::sound::walk_step;
+use numbers::Frequency;
+use numbers::Key;
+use numbers::Slot;
+use trace::sound::number;
+use trace::sound::put;
+use trace::sound::spaced;
+
+// A number behind a colon.
+fn coloned(out: &mut [u8], at: usize, n: u64) -> usize
+    requires { ⌜ at + (1 + DIGITS) ≤ length (now out) ⌝ }
+    ensures { λ r. ⌜ Spells (now (out .entry)) at (behind n) (1 + DIGITS) (now (out .exit)) r ⌝ }
+{
+    let next = put(out, at, b":");
+    number(out, next, n)
+}
+
+// One item: its slot, key and epoch.
+fn item(out: &mut [u8], at: usize, slot: Slot, key: Key, epoch: u64) -> usize
+    requires { ⌜ at + ITEM ≤ length (now out) ⌝ }
+    ensures { λ r. ⌜ Spells (now (out .entry)) at (itemText (slot .0) (key .0) epoch) ITEM (now (out .exit)) r ⌝ }
+{
+    let second = spaced(out, at, slot.0);
+    let third = coloned(out, second, key.0);
+    coloned(out, third, epoch)
+}
+
+// The items from a step on. No list is longer than the table of keys.
+fn items(
+    k: &[u64],
+    f: &[u64],
+    e: &[u64],
+    n: &[u64],
+    first: Step,
+    out: &mut [u8],
+    at: usize,
+) -> usize
+    requires { ⌜ Walkable (now k) (now f) (now e) (now n) × (at + length (now k) * ITEM ≤ length (now out)) ⌝ }
+    ensures { λ r. ⌜ Lists (now (k .entry)) (now (f .entry)) (now (e .entry)) (now (n .entry)) first (now (out .entry)) at (now (out .exit)) r ⌝ }
+{
+    let mut step = first;
+    let mut end = at;
+    let mut left = k.len();
+    while 0 < left {
+        match step {
+            Step::Here(slot, key, _, epoch) => {
+                end = item(out, end, slot, key, epoch);
+                step = walk_step(k, f, e, n, slot);
+            }
+            Step::NoMore => return end,
+            Step::Refused(_) => return end,
+        }
+        left -= 1;
+    }
+    end
+}
+
+// The line of a walk: the number of a refusal, or DONE and each item of the frequency's list, head first.
+pub fn walk(
+    k: &[u64],
+    f: &[u64],
+    e: &[u64],
+    p: &[u64],
+    n: &[u64],
+    ar: &[u64],
+    ix: &[u64],
+    bk: &[u64],
+    sp: &[u64],
+    state: State,
+    frequency: u64,
+    out: &mut [u8],
+    at: usize,
+) -> usize
+    requires { ⌜ at + WALK ≤ length (now out) ⌝ }
+    ensures { λ r. ⌜ Prints frequency (tables (now (k .entry)) (now (f .entry)) (now (e .entry)) (now (p .entry)) (now (n .entry)) (now (ar .entry)) (now (ix .entry)) (now (bk .entry)) (now (sp .entry))) state (now (out .entry)) at (now (out .exit)) r ⌝ }
+{
+    let of = Frequency(frequency);
+    let first = frequency_queries::walk::start(k, f, e, p, n, ar, ix, bk, sp, state, of);
+    if let Step::Refused(why) = first {
+        return drive_lines::sound::write(out, at, Told::Alone(why));
+    }
+    let next = number(out, at, 0);
+    let end = items(k, f, e, n, first, out, next);
+    put(out, end, b"\n")
+}

@@ -1,0 +1,6 @@
+pub mod Numbers
+pub mod Feeding
+pub mod Parts
+pub mod Sizes
+pub mod Wholes
+pub mod Case12

@@ -1,0 +1,3 @@
+pub mod Feeding
+pub mod Parts
+pub mod Case12
