@@ -1,10 +1,10 @@
 -- Record by record: what was passed of the input has printed what stands in the buffer, and the tables hold the cache after it.
 use mathlib.Core.Path.{_≡_, refl, sym, ap, _∙_, subst}
-use mathlib.Core.List.{List, [], _∷_, _++_}
-use Prim.Native.Nat.{ℕ, zero, suc, _+_, _*_, _≤_, _<_}
+use mathlib.Core.List.{List, [], _++_}
+use Prim.Native.Nat.{ℕ, _+_, _*_, _≤_, _<_}
 use native.Mathlib.Omega.{arith}
 use lib.ListN.{length, getD, take, drop, length-drop}
-use lib.Seq.{take-add, take-take, drop-drop, getD-take, getD-drop, length-take-le}
+use lib.Seq.{take-add, length-take-le}
 use Rattle.ledger.specs.Cache.{Cache}
 use Rattle.frequency_tables.specs.declared.State.{State}
 use Rattle.lfu_tables.specs.Tables.{CacheTables, CacheHolds, CacheSound}
@@ -12,7 +12,8 @@ use Rattle.trace.specs.Lines.{text, step, LONGEST}
 use Rattle.trace_steps.specs.Steps.{Prints}
 use Rattle.trace.specs.Output.{Run, run, RECORD, little, ended, runs}
 use Rattle.trace.proofs.Running.{runs-on, record-runs}
-use Rattle.trace_parts.specs.Feeding.{PRINT, part, Fed-by, Feeds}
+use Rattle.trace_parts.specs.Feeding.{PRINT, recordAt, part, Fed-by, Feeds}
+use Rattle.trace_parts.proofs.Records.{code-read, key-read, value-read}
 
 -- two bundles of tables have the same lengths
 pub record SameSizes (t t' : CacheTables) : Type 0 where
@@ -57,27 +58,13 @@ sizes-same t = record {
 
 -- One more record of the input
 
--- a part of a part
-within : (m k n : ℕ) (l : List ℕ) → m + k ≤ n → take k (drop m (take n l)) ≡ take k (drop m l)
-within zero k n l h = take-take k n l (omega arith)
-within (suc m) k zero l h = absurd (omega arith)
-within (suc m) k (suc n) [] h = refl
-within (suc m) k (suc n) (x ∷ xs) h = within m k n xs (omega arith)
-
 module _ (c : Cache) (input : List ℕ) (next : ℕ) (inside : next + RECORD ≤ length input) (whole : part c input next .pending ≡ []) (code key value : ℕ)
     (code-is : code ≡ getD input next 0) (key-is : key ≡ little (take 8 (drop (next + 1) input))) (value-is : value ≡ little (take 8 (drop (next + 9) input))) where
-  -- the bytes of the record
   abbrev bytes : List ℕ
-  bytes = take RECORD (drop next input)
+  bytes = recordAt input next
 
   abbrev done : Run
   done = part c input next
-
-  field-is : (m : ℕ) → m + 8 ≤ RECORD → little (take 8 (drop (next + m) input)) ≡ little (take 8 (drop m bytes))
-  field-is m h = ap little (sym (within m 8 RECORD (drop next input) h ∙ ap (take 8) (drop-drop m next input)))
-
-  first-is : getD input next 0 ≡ getD bytes 0 0
-  first-is = sym (getD-take RECORD (drop next input) 0 0 (omega arith) ∙ getD-drop next input 0 0 ∙ ap (λ (p : ℕ). getD input p 0) (omega arith))
 
   part-more : part c input (next + RECORD) ≡ run (done .printed ++ text (step code key value (done .cache) .0)) (step code key value (done .cache) .1) []
   unfolding ended
@@ -87,7 +74,7 @@ module _ (c : Cache) (input : List ℕ) (next : ℕ) (inside : next + RECORD ≤
       ∙ runs-on (run [] c []) (take next input) bytes
       ∙ ap (λ (r : Run). runs r bytes) pend
       ∙ record-runs (done .printed) (done .cache) bytes (length-take-le RECORD (drop next input) (rw length-drop (omega arith)))
-      ∙ sym (rw (code-is ∙ first-is, key-is ∙ field-is 1 (omega arith), value-is ∙ field-is 9 (omega arith)))
+      ∙ sym (rw (code-is ∙ code-read input next, key-is ∙ key-read input next, value-is ∙ value-read input next))
 
 -- The loop
 

@@ -4,7 +4,7 @@ use mathlib.Core.Bool.{cond}
 use mathlib.Core.List.{List, []}
 use Prim.Native.Nat.{ℕ, _+_, _*_, _≤_, _<_}
 use lib.Dec.{ltb}
-use lib.ListN.{length, take}
+use lib.ListN.{length, take, drop}
 use Rattle.numbers.specs.Marks.{LIMIT}
 use Rattle.ledger.specs.Cache.{Cache}
 use Rattle.frequency_tables.specs.declared.State.{State}
@@ -19,6 +19,10 @@ use Rattle.trace_parts.specs.declared.Fed.{Fed}
 -- the most bytes that are printed for a byte of a record
 abbrev pub PRINT : ℕ
 PRINT = 3
+
+-- the bytes of the record at a place of the input
+abbrev pub recordAt : List ℕ → ℕ → List ℕ
+recordAt input at = take RECORD (drop at input)
 
 -- a part of the input is read from a cache at the end of a record
 abbrev pub partRun : Cache → List ℕ → Run
