@@ -1,7 +1,8 @@
 -- Record by record: what was carried out of the input has printed what stands in the buffer, line by line; and the lengths of the buffers.
-use mathlib.Core.Path.{_≡_, refl, sym, ap, _∙_, subst}
-use mathlib.Core.List.{List, _++_}
-use Prim.Native.Nat.{ℕ, _+_, _≤_, _<_}
+use mathlib.Core.Path.{_≡_, refl, sym, _∙_, subst}
+use mathlib.Core.Bool.{Bool}
+use mathlib.Core.List.{List}
+use Prim.Native.Nat.{ℕ, _+_, _-_, _≤_, _<_}
 use native.Mathlib.Omega.{arith}
 use lib.ListN.{length, take, getD, drop}
 use Rattle.numbers.specs.Marks.{LIMIT}
@@ -13,7 +14,16 @@ use Rattle.trace_parts.proofs.Feeding.{SameSizes, sizes-then, sizes-same}
 use Rattle.trace_parts.proofs.Records.{code-read, key-read, value-read}
 use Rattle.drive_walk.specs.Walk.{WALK}
 use Rattle.drive_steps.specs.Steps.{Prints, Steps}
+use Rattle.drive_turns.specs.declared.Fed.{Fed}
+use Rattle.drive_turns.specs.declared.Turned.{Turned}
 use Rattle.drive_turns.specs.Turns.{PART, LAST, Buffers, Serves, begins, goesOn, Feeds, Turns}
+
+-- the lengths of the input buffer and of the output buffer
+abbrev pub LARGE : ℕ
+LARGE = 65536
+
+abbrev pub ROOM : ℕ
+ROOM = 524288
 
 -- The records that are carried out
 
@@ -30,6 +40,10 @@ module _ (input : List ℕ) (from end : ℕ) (items₀ out₀ : List ℕ) (t : C
   feeding-start h = record { begun = h; sizes = sizes-same t; places = refl; long = refl; room = omega arith; served = begins }
 
   module _ (items : List ℕ) (t' : CacheTables) (s' : State) (out : List ℕ) (at next : ℕ) (so-far : Feeding input from end items₀ out₀ t s items t' s' out at next) where
+    -- there is room for one more line
+    pub feeding-room : at ≤ LAST → LAST + WALK ≤ length out₀ → at + WALK ≤ length out
+    feeding-room early wide = let long = so-far .long in omega arith
+
     pub feeding-more : next + RECORD ≤ end → at ≤ LAST → (code a b : ℕ) → code ≡ getD input next 0 → a ≡ little (take 8 (drop (next + 1) input)) →
         b ≡ little (take 8 (drop (next + 9) input)) → (items' : List ℕ) (t'' : CacheTables) (s'' : State) (out' : List ℕ) (r : ℕ) →
         Steps code a b t' s' out at t'' s'' out' r → SameSizes t' t'' → length items' ≡ length items → length out' ≡ length out →
@@ -55,14 +69,38 @@ module _ (input : List ℕ) (from end : ℕ) (items₀ out₀ : List ℕ) (t : C
       served = so-far .served;
     }
 
--- The buffers
+-- Turns
 
-pub buffers-stay : (items input : List ℕ) (next end : ℕ) (out items' input' out' : List ℕ) (next' end' : ℕ) → Buffers items input next end out →
-    length items' ≡ length items → length input' ≡ length input → length out' ≡ length out → next' ≤ end' → end' ≤ PART → Buffers items' input' next' end' out'
-buffers-stay items input next end out items' input' out' next' end' b p q r begun part = record {
-  places = p ∙ b .places;
-  begun = begun;
-  part = part;
-  reads = omega (arith, b .reads);
-  prints = omega (arith, b .prints);
+module _ (items input : List ℕ) (from end : ℕ) (out : List ℕ) (b : Buffers items input from end out) (t : CacheTables) (s : State) where
+  -- less than a record was left: nothing is carried out
+  pub turned-waits : end - from < RECORD → (input' : List ℕ) → length input' ≡ length input → (r : Turned) → (r .next ≤ r .end) × (r .end ≤ PART) × (r .state ≡ s) →
+      Turns input from end t s items input' t out r
+  turned-waits little input' kept r ends = record {
+    buffers = record { places = b .places; begun = ends .0; part = ends .1; reads = let wide = b .reads in omega arith; prints = b .prints };
+    served = λ more. absurd (omega arith);
+    waits = λ less. (refl, ends .2);
+  }
+
+  pub turned-served : from + RECORD ≤ end → (items' : List ℕ) (t' : CacheTables) (out' : List ℕ) (fed : Fed) (written : Bool) → Feeds input from end t s t' out' fed →
+      length items' ≡ length items → length out' ≡ length out →
+      Turns input from end t s items' input t' out' (record { more = written; at = fed .at; end = end; next = fed .next; state = fed .state })
+  turned-served more items' t' out' fed written feeds places long = record {
+    buffers = record { places = places ∙ b .places; begun = feeds .inside; part = b .part; reads = b .reads; prints = let wide = b .prints in omega arith };
+    served = λ z. feeds .served;
+    waits = λ less. absurd (omega arith);
+  }
+
+-- from turn to turn the tables and buffers keep their lengths
+pub record Running (t t' : CacheTables) (items input : List ℕ) (next end : ℕ) (out : List ℕ) : Type 0 where
+  pub sizes : SameSizes t t'
+  pub buffers : Buffers items input next end out
+  pub input-size : LARGE ≡ length input
+  pub out-size : ROOM ≡ length out
+
+pub running-start : (t : CacheTables) (items input out : List ℕ) → length items ≡ LIMIT → LARGE ≡ length input → ROOM ≡ length out → Running t t items input PART PART out
+running-start t items input out places large room = record {
+  sizes = sizes-same t;
+  buffers = record { places = places; begun = omega arith; part = omega arith; reads = omega arith; prints = omega arith };
+  input-size = large;
+  out-size = room;
 }

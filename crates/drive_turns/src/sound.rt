@@ -3,6 +3,7 @@
 ghost use mathlib.Core.Path.{_≡_};
 ghost use Prim.Native.Nat.{_≤_};
 ghost use lib.ListN.{length};
+ghost use Rattle.numbers.specs.Marks.{LIMIT};
 ghost use Rattle.frequency_tables.specs.Tables.{tables};
 ghost use Rattle.lfu_tables.specs.Tables.{withValues};
 ghost use Rattle.drive_turns.specs.Turns.{PART as FULL, Feeds, Turns, Buffers};
@@ -237,7 +238,17 @@ fn begin(
     say(Told::Alone(why));
 }
 
-// The tables hold 4,096 slots; the first places, as many as the capacity calls for, are lent, or all where there are not so many.
+// As many places as the capacity calls for, or all where there are not so many.
+fn places(capacity: usize) -> usize
+    ensures { λ r. ⌜ r ≤ LIMIT ⌝ }
+{
+    if capacity < 4096 {
+        return capacity;
+    }
+    4096
+}
+
+// The tables hold 4,096 slots, of which the first places are lent.
 pub fn start(capacity: usize) {
     let mut keys = [0u64; 4096];
     let mut freqs = [0u64; 4096];
@@ -249,23 +260,20 @@ pub fn start(capacity: usize) {
     let mut buckets = [0u64; 24576];
     let mut spares = [0u64; 4096];
     let mut values = [0u64; 4096];
-    let mut places = 4096;
-    if capacity < places {
-        places = capacity;
-    }
-    let twice = places + places;
-    let words = places * WORDS as usize;
+    let lent = places(capacity);
+    let twice = lent + lent;
+    let words = lent * WORDS as usize;
     begin(
-        &mut keys[..places],
-        &mut freqs[..places],
-        &mut epochs[..places],
-        &mut prevs[..places],
-        &mut nexts[..places],
-        &mut arena[..places],
+        &mut keys[..lent],
+        &mut freqs[..lent],
+        &mut epochs[..lent],
+        &mut prevs[..lent],
+        &mut nexts[..lent],
+        &mut arena[..lent],
         &mut index[..twice],
         &mut buckets[..words],
-        &mut spares[..places],
-        &mut values[..places],
+        &mut spares[..lent],
+        &mut values[..lent],
         capacity as u64,
     )
 }
