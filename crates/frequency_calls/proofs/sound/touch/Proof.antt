@@ -1,5 +1,5 @@
 -- A bound key is hit where the index finds it.
-use mathlib.Core.Path.{refl, subst}
+use mathlib.Core.Path.{subst}
 use native.Mathlib.Omega.{arith}
 use denote.Ref.{now}
 use Rattle.key_index.specs.Index.{Finds}
