@@ -1,11 +1,9 @@
 // The line and the state after a call, for the answers that `drive_lines` does not know.
 ghost use mathlib.Core.Path.{_≡_};
-ghost use Rattle.frequency_reads.specs.Replies.{epochReply, countReply};
+ghost use Rattle.frequency_reads.specs.Replies.{epochReply};
 ghost use Rattle.drive_lines.specs.Lines.{text, replyText};
 use drive_lines::Driven;
-use drive_lines::count;
 use drive_lines::epoch;
-use frequency_batched::Counted;
 use frequency_epochs::Dated;
 
 // After a call that answers an epoch.
@@ -16,18 +14,6 @@ pub(crate) fn dated(done: Dated) -> Driven
     let state = done.state;
     Driven {
         told: epoch(answer),
-        state: state,
-    }
-}
-
-// After a batch, which answers a count.
-pub(crate) fn counted(done: Counted) -> Driven
-    ensures { λ r. ⌜ (text (r .told) ≡ replyText (countReply (done .answer))) × (r .state ≡ done .state) ⌝ }
-{
-    let answer = done.answer;
-    let state = done.state;
-    Driven {
-        told: count(answer),
         state: state,
     }
 }

@@ -1,13 +1,11 @@
 // The cache's operations of `drive`: each is one public call, and what is told of its answer. The tables are named k f e p n ar ix bk sp vs:
 // keys, freqs, epochs, prevs, nexts, arena, index, buckets, spares and values.
-ghost use mathlib.Core.Path.{_≡_};
 ghost use Rattle.frequency_tables.specs.Tables.{tables};
-ghost use Rattle.frequency_reads.specs.Replies.{countReply};
 ghost use Rattle.lfu_tables.specs.Tables.{withValues};
-ghost use Rattle.drive_lines.specs.Lines.{text, replyText};
 ghost use Rattle.drive_cache.specs.Operations.{question, cacheCall, batchCall, Drives, DrivesAll};
 use drive_lines::Driven;
 use drive_lines::Told;
+use drive_lines::after::counted;
 use drive_lines::after::evicted;
 use drive_lines::after::inserted;
 use drive_lines::after::leveled;
@@ -22,7 +20,6 @@ use lfu::get;
 use lfu::insert;
 use lfu::remove;
 use lfu::reset_frequency;
-use lfu_batches::Counted;
 use lfu_batches::insert_batch;
 use lfu_batches::remove_batch;
 use lfu_batches::touch_batch;
@@ -89,18 +86,6 @@ pub fn act(
             told: asks(k, f, e, p, n, ar, ix, bk, sp, vs, state, code, a),
             state: state,
         },
-    }
-}
-
-// The line and the state after a batch.
-fn counted(done: Counted) -> Driven
-    ensures { λ r. ⌜ (text (r .told) ≡ replyText (countReply (done .answer))) × (r .state ≡ done .state) ⌝ }
-{
-    let answer = done.answer;
-    let state = done.state;
-    Driven {
-        told: count(answer),
-        state: state,
     }
 }
 

@@ -1,15 +1,17 @@
 // The line and the state that a call leaves, for each pair of an answer and a state that a call gives.
 ghost use mathlib.Core.Path.{_≡_};
-ghost use Rattle.frequency_reads.specs.Replies.{levelReply, leastReply};
+ghost use Rattle.frequency_reads.specs.Replies.{levelReply, leastReply, countReply};
 ghost use Rattle.frequency_calls.specs.Replies.{plainReply};
 ghost use Rattle.lfu_calls.specs.Replies as cache;
 ghost use Rattle.drive_lines.specs.Lines.{text, replyText, insertionText};
 use crate::Driven;
 use crate::Told;
 use crate::cached;
+use crate::count;
 use crate::least;
 use crate::level;
 use crate::plain;
+use frequency_batches::Counted;
 use frequency_calls::Leveled;
 use frequency_calls::Popped;
 use frequency_calls::Stored;
@@ -96,6 +98,18 @@ pub fn evicted(done: Evicted) -> Driven
     let state = done.state;
     Driven {
         told: cached::least(answer),
+        state: state,
+    }
+}
+
+// After a batch, which answers a count.
+pub fn counted(done: Counted) -> Driven
+    ensures { λ r. ⌜ (text (r .told) ≡ replyText (countReply (done .answer))) × (r .state ≡ done .state) ⌝ }
+{
+    let answer = done.answer;
+    let state = done.state;
+    Driven {
+        told: count(answer),
         state: state,
     }
 }

@@ -3,14 +3,9 @@ ghost use Rattle.ledger.specs.Calls as ledger;
 ghost use Rattle.frequency_tables.specs.Tables.{tables};
 ghost use Rattle.frequency_tables.specs.Lent.{Makes};
 ghost use Rattle.frequency_reads.specs.Replies.{countReply};
+use frequency_batches::Counted;
 use frequency_reads::Count;
 use frequency_tables::State;
-
-// How many items of a batch were done, or why none was tried, and the state after the call.
-pub struct Counted {
-    pub answer: Count,
-    pub state: State,
-}
 
 // Binds each key that is absent, while there are free slots; the answer is how many were bound.
 pub fn insert_batch(

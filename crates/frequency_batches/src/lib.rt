@@ -3,6 +3,7 @@ ghost use mathlib.Core.Path.{_≡_};
 ghost use Rattle.ledger.specs.Buckets.{wasDone};
 ghost use Rattle.frequency_reads.specs.Replies.{levelReply};
 ghost use Rattle.frequency_calls.specs.Replies.{plainReply};
+use frequency_reads::Count;
 use frequency_reads::Level;
 use frequency_tables::State;
 use numbers::Answer;
@@ -12,6 +13,12 @@ pub mod sound;
 // How many items were done, and the state after the batch.
 pub struct Batched {
     pub done: u64,
+    pub state: State,
+}
+
+// How many items were done, or why none was tried, and the state after a batch on any tables.
+pub struct Counted {
+    pub answer: Count,
     pub state: State,
 }
 

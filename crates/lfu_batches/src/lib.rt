@@ -9,6 +9,7 @@ ghost use Rattle.lfu_tables.specs.Lent.{cache};
 ghost use Rattle.lfu_calls.specs.Replies.{insertionReply, valueReply};
 ghost use Rattle.ledger.specs.Buckets.{wasDone};
 ghost use Rattle.lfu_batches.specs.Batches.{boundIn, BatchChecks, InsertsAll};
+use frequency_batches::Counted;
 use frequency_reads::Count;
 use frequency_tables::State;
 use lfu_calls::Insertion;
@@ -16,12 +17,6 @@ use lfu_calls::Value;
 use numbers::Answer;
 
 pub mod sound;
-
-// How many items of a batch were done, or why none was tried, and the state after the call.
-pub struct Counted {
-    pub answer: Count,
-    pub state: State,
-}
 
 // 1 for a key that is newly bound, else 0.
 fn bound_once(answer: Insertion) -> u64
