@@ -29,6 +29,8 @@ ROOM = 524288
 
 pub record Feeding (input : List ℕ) (from end : ℕ) (items₀ out₀ : List ℕ) (t : CacheTables) (s : State) (items : List ℕ) (t' : CacheTables) (s' : State) (out : List ℕ) (at next : ℕ) : Type 0 where
   pub begun : next ≤ end
+  pub forward : from ≤ next
+  pub moved : LAST < at → from < next
   pub sizes : SameSizes t t'
   pub places : length items ≡ length items₀
   pub long : length out ≡ length out₀
@@ -37,7 +39,7 @@ pub record Feeding (input : List ℕ) (from end : ℕ) (items₀ out₀ : List �
 
 module _ (input : List ℕ) (from end : ℕ) (items₀ out₀ : List ℕ) (t : CacheTables) (s : State) where
   pub feeding-start : from ≤ end → Feeding input from end items₀ out₀ t s items₀ t s out₀ 0 from
-  feeding-start h = record { begun = h; sizes = sizes-same t; places = refl; long = refl; room = omega arith; served = begins }
+  feeding-start h = record { begun = h; forward = omega arith; moved = λ z. absurd (omega arith); sizes = sizes-same t; places = refl; long = refl; room = omega arith; served = begins }
 
   module _ (items : List ℕ) (t' : CacheTables) (s' : State) (out : List ℕ) (at next : ℕ) (so-far : Feeding input from end items₀ out₀ t s items t' s' out at next) where
     -- there is room for one more line
@@ -53,6 +55,8 @@ module _ (input : List ℕ) (from end : ℕ) (items₀ out₀ : List ℕ) (t : C
         rw (sym (e₁ ∙ code-read input next), sym (e₂ ∙ key-read input next), sym (e₃ ∙ value-read input next)) (steps .prints) in
         record {
           begun = more;
+          forward = let before = so-far .forward in omega arith;
+          moved = λ z. let before = so-far .forward in omega arith;
           sizes = sizes-then t t' t'' (so-far .sizes) sizes;
           places = places ∙ so-far .places;
           long = long ∙ so-far .long;
@@ -62,9 +66,14 @@ module _ (input : List ℕ) (from end : ℕ) (items₀ out₀ : List ℕ) (t : C
               (goesOn next (take at out) t' s' (so-far .served) (steps .line) t'' s'' prints);
         }
 
-    pub feeding-end : LAST + WALK ≤ length out₀ → Feeds input from end t s t' out (record { at = at; next = next; state = s' })
-    feeding-end wide = record {
+    -- it ends where no room or no whole record is left, and either way it has gone on
+    pub left-none : end - next < RECORD → from + RECORD ≤ end → from < next
+    left-none less more = omega arith
+
+    pub feeding-end : LAST + WALK ≤ length out₀ → (from + RECORD ≤ end → from < next) → Feeds input from end t s t' out (record { at = at; next = next; state = s' })
+    feeding-end wide goes = record {
       inside = so-far .begun;
+      goes = goes;
       room = let room = so-far .room in let long = so-far .long in omega arith;
       served = so-far .served;
     }
@@ -77,6 +86,7 @@ module _ (items input : List ℕ) (from end : ℕ) (out : List ℕ) (b : Buffers
       Turns input from end t s items input' t out r
   turned-waits little input' kept r ends = record {
     buffers = record { places = b .places; begun = ends .0; part = ends .1; reads = let wide = b .reads in omega arith; prints = b .prints };
+    goes = λ more. absurd (omega arith);
     served = λ more. absurd (omega arith);
     waits = λ less. (refl, ends .2);
   }
@@ -86,6 +96,7 @@ module _ (items input : List ℕ) (from end : ℕ) (out : List ℕ) (b : Buffers
       Turns input from end t s items' input t' out' (record { more = written; at = fed .at; end = end; next = fed .next; state = fed .state })
   turned-served more items' t' out' fed written feeds places long = record {
     buffers = record { places = places ∙ b .places; begun = feeds .inside; part = b .part; reads = b .reads; prints = let wide = b .prints in omega arith };
+    goes = feeds .goes;
     served = λ z. feeds .served;
     waits = λ less. absurd (omega arith);
   }

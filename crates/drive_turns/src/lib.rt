@@ -1,4 +1,6 @@
 // The program `drive` but for its `main`: standard input to standard output, in large parts.
+ghost use mathlib.Core.Path.{_≡_};
+ghost use Rattle.drive_turns.specs.Turns.{lastTold};
 use drive_lines::Told;
 use frequency_tables::State;
 use trace::Word;
@@ -37,7 +39,9 @@ fn say(told: Told) -> bool {
 }
 
 // The line at the end of the input, of which so many bytes are left.
-fn last_line(left: usize) -> Told {
+fn last_line(left: usize) -> Told
+    ensures { λ r. ⌜ r ≡ lastTold left ⌝ }
+{
     if left > 0 {
         return Told::Just(Word::Cut);
     }

@@ -2,10 +2,10 @@
 use mathlib.Core.Path.{refl, _∙_}
 use Prim.Native.Nat.{_-_}
 use native.Mathlib.Omega.{arith}
-use borrow.Author.Tests.{leb-true}
+use borrow.Author.Tests.{leb-true, leb-false}
 use Rattle.frequency_tables.specs.Tables.{tables}
 use Rattle.lfu_tables.specs.Tables.{withValues}
-use Rattle.drive_turns.proofs.Turning.{Feeding, feeding-start, feeding-room, feeding-more, feeding-end}
+use Rattle.drive_turns.proofs.Turning.{Feeding, feeding-start, feeding-room, feeding-more, left-none, feeding-end}
 use Rattle.drive_turns.proofs.sound.feed.Statement.{statement}
 use Rattle.drive_turns.proofs.sound.feed.Tie as tie
 
@@ -86,7 +86,7 @@ same-length-12 : tie.Need-same-length-12 Inv-loop μ-loop
 same-length-12 c = c .before .before .loop .inv .long
 
 returns : tie.Need-returns Inv-loop μ-loop
-returns c = feeding-end _ _ _ _ _ _ _ _ _ _ _ _ _ (c .before .before .loop .inv) (c .before .before .before .before .before .before .before .before .before .before .before .before .before .before .before .before .pre .prints)
+returns c = feeding-end _ _ _ _ _ _ _ _ _ _ _ _ _ (c .before .before .loop .inv) (c .before .before .before .before .before .before .before .before .before .before .before .before .before .before .before .before .pre .prints) (λ more. c .before .before .loop .inv .moved (leb-false _ _ (c .if1 .left)))
 
 same-length-13 : tie.Need-same-length-13 Inv-loop μ-loop
 same-length-13 c = c .before .loop .inv .sizes .keys
@@ -125,7 +125,7 @@ same-length-24 : tie.Need-same-length-24 Inv-loop μ-loop
 same-length-24 c = c .before .loop .inv .long
 
 returns-2 : tie.Need-returns-2 Inv-loop μ-loop
-returns-2 c = feeding-end _ _ _ _ _ _ _ _ _ _ _ _ _ (c .before .loop .inv) (c .before .before .before .before .before .before .before .before .before .before .before .before .before .before .before .pre .prints)
+returns-2 c = feeding-end _ _ _ _ _ _ _ _ _ _ _ _ _ (c .before .loop .inv) (c .before .before .before .before .before .before .before .before .before .before .before .before .before .before .before .pre .prints) (left-none _ _ _ _ _ _ _ _ _ _ _ _ _ (c .before .loop .inv) (let left = c .loop-test .left in omega arith))
 
 pub feed-spec : {M : Type 1} → statement M
 feed-spec =
