@@ -4,7 +4,7 @@ use mathlib.Core.Path.{_≡_, refl, sym, ap, _∙_, subst}
 use mathlib.Core.Bool.{true, false}
 use mathlib.Core.Logic.{_≢_, _↔_, inl}
 use mathlib.Core.List.{List, [], _∷_, _++_, map, append-assoc, append-nil, map-append}
-use Prim.Native.Nat.{ℕ, _+_, _-_, _<_, _≤_}
+use Prim.Native.Nat.{ℕ, _+_, _<_, _≤_, _-_}
 use native.Mathlib.Omega.{arith}
 use lib.ListN.{length, length-append}
 use lib.Dec.{eqb, ltb}
@@ -21,17 +21,17 @@ use Rattle.slot_arena.specs.Arena.{InUse}
 use Rattle.slot_arena.specs.Check.{usedIn}
 use Rattle.slot_arena.proofs.Check.{others-counted}
 use Rattle.bucket_table.specs.declared.Buckets.{Buckets}
-use Rattle.bucket_table.specs.Records.{frequency, lower, higher, up, down, InTable, Spot, Row, nums, Rising, Written, Holds, Sound, rowOf}
-use Rattle.bucket_table.specs.Check.{Sized, RecordOk, RecordsWalk}
+use Rattle.bucket_table.specs.Records.{frequency, lower, higher, up, down, InTable, Spot, Row, nums, Written, rowOf, RecordsHold, RecordsSound, RowsRise}
+use Rattle.bucket_table.specs.Check.{RecordOk, RecordsWalk, RecordsSized}
 use Rattle.bucket_table.proofs.Rows.{clear, rising-around}
 use Rattle.bucket_table.proofs.One.{rows-of}
 
 -- ---- one record
 
-pub used-in : (b sp : List ℕ) (r : ℕ) → Sized b sp → InUse sp r → InTable b r
+pub used-in : (b sp : List ℕ) (r : ℕ) → RecordsSized b sp → InUse sp r → InTable b r
 used-in b sp r z u = let l = u .0 in let e = z .size in omega arith
 
-pub used-spot : (b sp : List ℕ) (r : ℕ) → Sized b sp → InUse sp r → Spot b r
+pub used-spot : (b sp : List ℕ) (r : ℕ) → RecordsSized b sp → InUse sp r → Spot b r
 used-spot b sp r z u = let l = u .0 in let m = z .limit in inl (omega arith, used-in b sp r z u)
 
 pub record-last : (b sp : List ℕ) (low at r u v : ℕ) → InUse sp r → u ≡ lower b r → u ≡ at → v ≡ frequency b r → v ≤ CEILING → (ltb low v ≡ true) ↔ RecordOk b sp low at r
@@ -47,7 +47,7 @@ pub record Climb (b sp : List ℕ) (s : Buckets) (used number at low left : ℕ)
   pub passed : List ℕ
   pub walk : Walk (up b s) (down b s) passed at number
   pub marks : All (InUse sp) passed
-  pub rises : (ws : List Row) → Rising low ws → Rising 0 (map (rowOf b) passed ++ ws)
+  pub rises : (ws : List Row) → RowsRise low ws → RowsRise 0 (map (rowOf b) passed ++ ws)
   pub low-is : (g : ℕ) → 0 < g → All (λ r. frequency b r < g) passed → low < g
   pub spent : left + length passed ≡ used
 
@@ -62,7 +62,7 @@ climb-start b sp s used = record {
 }
 
 -- the arena has as many slots in use as there are rows
-used-many : (b sp : List ℕ) (s : Buckets) (ws : List Row) → Holds b sp s ws → usedIn sp ≡ length (nums ws)
+used-many : (b sp : List ℕ) (s : Buckets) (ws : List Row) → RecordsHold b sp s ws → usedIn sp ≡ length (nums ws)
 used-many b sp s ws h =
     let free = h .uses .sound .1 in
     let m = h .uses .many in
@@ -74,12 +74,12 @@ nums-of b (r ∷ rs) = ap (λ (l : List ℕ). r ∷ l) (nums-of b rs)
 
 module _ (b sp : List ℕ) (s : Buckets) (used number at low left : ℕ) (w : Climb b sp s used number at low left) where
   -- what comes next in rows that there may be
-  next : number ≢ NONE → (ws : List Row) → Holds b sp s ws → RecordOk b sp low at number × (length (w .passed) + 1 ≤ length (nums ws))
+  next : number ≢ NONE → (ws : List Row) → RecordsHold b sp s ws → RecordOk b sp low at number × (length (w .passed) + 1 ≤ length (nums ws))
   next ne ws h =
       let q = walk-next (up b s) (down b s) (w .passed) at number (w .walk) ne (nums ws) (clear b sp s ws h) (h .ring) in
       let e : ws ≡ map (rowOf b) (w .passed) ++ rowOf b number ∷ map (rowOf b) (q .0) =
       rows-of b ws (h .each) ∙ ap (map (rowOf b)) (q .1) ∙ map-append (rowOf b) (w .passed) (number ∷ q .0) in
-      let ri = rising-around 0 (map (rowOf b) (w .passed)) (rowOf b number) (map (rowOf b) (q .0)) (subst (Rising 0) e (h .rising)) in
+      let ri = rising-around 0 (map (rowOf b) (w .passed)) (rowOf b number) (map (rowOf b) (q .0)) (subst (RowsRise 0) e (h .rising)) in
       let n = ap length (q .1) in (
         record {
           used = all-mid (InUse sp) (w .passed) number (q .0) (subst (All (InUse sp)) (q .1) (h .uses .marks)) .0;
@@ -90,7 +90,7 @@ module _ (b sp : List ℕ) (s : Buckets) (used number at low left : ℕ) (w : Cl
         omega (arith, length-append (w .passed) (number ∷ q .0)),
       )
 
-  refuse : (usedIn sp ≡ used → Sound b sp s → ⊥) → RecordsWalk b sp s used false
+  refuse : (usedIn sp ≡ used → RecordsSound b sp s → ⊥) → RecordsWalk b sp s used false
   refuse f = record { good = λ _ _ q. absurd (neither false q refl); all = λ e k. absurd (f (sym e) k) }
 
   pub walk-short : left ≡ 0 → number ≢ NONE → RecordsWalk b sp s used false
@@ -99,7 +99,7 @@ module _ (b sp : List ℕ) (s : Buckets) (used number at low left : ℕ) (w : Cl
   pub walk-bad : number ≢ NONE → (RecordOk b sp low at number → ⊥) → RecordsWalk b sp s used false
   walk-bad ne bad = refuse (λ u k. bad (next ne (k .0) (k .1) .0))
 
-  pub climb-on : Sized b sp → RecordOk b sp low at number → left ≢ 0 → (f n : ℕ) → f ≡ frequency b number → n ≡ up b s number → Climb b sp s used n number f (left - 1)
+  pub climb-on : RecordsSized b sp → RecordOk b sp low at number → left ≢ 0 → (f n : ℕ) → f ≡ frequency b number → n ≡ up b s number → Climb b sp s used n number f (left - 1)
   climb-on z k nl f n ef en =
       let i = k .used .0 in let l = z .limit in let p = w .spent in
       let ne : number ≢ NONE = omega arith in
@@ -120,7 +120,7 @@ module _ (b sp : List ℕ) (s : Buckets) (used number at low left : ℕ) (w : Cl
       let n = ap length (q .0) in let m = used-many b sp s (k .0) (k .1) in let p = w .spent in
       omega arith)
 
-  pub walk-done : Sized b sp → number ≡ NONE → left ≡ 0 → RecordsWalk b sp s used (eqb (s .top) at)
+  pub walk-done : RecordsSized b sp → number ≡ NONE → left ≡ 0 → RecordsWalk b sp s used (eqb (s .top) at)
   walk-done z e el = record {
     good = λ u so q.
         let en = nums-of b (w .passed) in let n = ap length en in let p = w .spent in

@@ -6,7 +6,7 @@ use Rattle.numbers.specs.Marks.{NONE}
 use Rattle.lists.specs.Lists.{All}
 use Rattle.links.proofs.Rings.{links-one}
 use Rattle.bucket_table.specs.declared.Buckets.{Buckets}
-use Rattle.bucket_table.specs.Records.{up, down, Row, row, rowOf, nums, Written, Holds}
+use Rattle.bucket_table.specs.Records.{up, down, Row, row, rowOf, nums, Written, RecordsHold}
 use Rattle.bucket_table.proofs.Rows.{clear}
 
 pub row-is : (b : List ℕ) (w : Row) → Written b w → w ≡ rowOf b (w .num)
@@ -16,7 +16,7 @@ pub rows-of : (b : List ℕ) (ws : List Row) → All (Written b) ws → ws ≡ m
 rows-of b [] h = refl
 rows-of b (w ∷ ws) h = let e = row-is b w (h .0) in let r = rows-of b ws (h .1) in λ i. e i ∷ r i
 
-pub holds-one : (b sp : List ℕ) (s : Buckets) (vs ws : List Row) → Holds b sp s vs → Holds b sp s ws → vs ≡ ws
+pub holds-one : (b sp : List ℕ) (s : Buckets) (vs ws : List Row) → RecordsHold b sp s vs → RecordsHold b sp s ws → vs ≡ ws
 holds-one b sp s vs ws h k =
     rows-of b vs (h .each)
     ∙ ap (map (rowOf b)) (links-one (up b s) (down b s) NONE (nums vs) (nums ws) NONE (clear b sp s vs h) (clear b sp s ws k) (h .ring) (k .ring))

@@ -3,7 +3,7 @@ use mathlib.Core.Path.{_≡_, refl, sym, ap, _∙_, subst}
 use mathlib.Core.Logic.{_≢_, _↔_, inl, inr}
 use mathlib.Core.Bool.{true, cond}
 use mathlib.Core.List.{List, [], _∷_, _++_, append-assoc, append-nil}
-use Prim.Native.Nat.{ℕ, _+_, _-_, _<_, _≤_}
+use Prim.Native.Nat.{ℕ, _+_, _<_, _≤_, _-_}
 use native.Mathlib.Omega.{arith}
 use lib.Dec.{eqb}
 use borrow.Author.Tests.{eq-eqb, eqb-true}
@@ -15,9 +15,9 @@ use Rattle.lists.proofs.Members.{all-map, all-append, all-right, final-append}
 use Rattle.links.proofs.Functions.{look-end, look-at}
 use Rattle.links.specs.declared.Ends.{Ends}
 use Rattle.bucket_table.specs.declared.Buckets.{Buckets}
-use Rattle.bucket_table.specs.Records.{frequency, higher, up, InTable, Spot, Row, row, empty, nums, Holds, Sound, rowOf}
+use Rattle.bucket_table.specs.Records.{frequency, higher, up, InTable, Spot, Row, row, empty, nums, rowOf, RecordsHold, RecordsSound}
 use Rattle.bucket_table.specs.declared.Made.{Made}
-use Rattle.bucket_table.specs.Calls.{Places, HasLevel, Makes, Opens}
+use Rattle.bucket_table.specs.Calls.{HasLevel, Opens, MakesRecord, PlacesRecord}
 use Rattle.bucket_table.proofs.One.{row-is}
 use Rattle.bucket_table.proofs.Rows.{nums-append, rising-around, above-none, above-row, row-in, row-some, row-written}
 
@@ -39,7 +39,7 @@ up-record b s k v ne e = e ∙ sym (look-at (higher b) (s .bottom) k ne)
 pub record Standing (b : List ℕ) (s : Buckets) (us : List Row) (at n : ℕ) : Type 0 where
   pub last : at ≡ final NONE (nums us)
   pub next-is : n ≡ up b s at
-  pub begins : (sp : List ℕ) (ws : List Row) → Holds b sp s ws → (vs : List Row) × (ws ≡ us ++ vs)
+  pub begins : (sp : List ℕ) (ws : List Row) → RecordsHold b sp s ws → (vs : List Row) × (ws ≡ us ++ vs)
 
 -- how much the frequency can still rise
 abbrev pub rise : List ℕ → ℕ → ℕ
@@ -50,29 +50,29 @@ standing-none b s n e = record { last = refl; next-is = sym e ∙ up-none b s NO
 
 module _ (b : List ℕ) (s : Buckets) (us : List Row) (at n : ℕ) (p : Standing b s us at n) where
   -- nothing is next: these are all rows
-  pub standing-end : n ≡ NONE → (sp : List ℕ) (ws : List Row) → Holds b sp s ws → ws ≡ us
-  standing-end e sp ws h = let q = p .begins sp ws h in go (q .0) (q .1) (subst (Holds b sp s) (q .1) h)
+  pub standing-end : n ≡ NONE → (sp : List ℕ) (ws : List Row) → RecordsHold b sp s ws → ws ≡ us
+  standing-end e sp ws h = let q = p .begins sp ws h in go (q .0) (q .1) (subst (RecordsHold b sp s) (q .1) h)
     where
-      go : (vs : List Row) → ws ≡ us ++ vs → Holds b sp s (us ++ vs) → ws ≡ us
+      go : (vs : List Row) → ws ≡ us ++ vs → RecordsHold b sp s (us ++ vs) → ws ≡ us
       go [] q k = q ∙ append-nil us
       go (v ∷ vs) q k = absurd (row-some b sp s us v vs k (sym (above-row b sp s us v vs k) ∙ ap (up b s) (sym (p .last)) ∙ sym (p .next-is) ∙ e))
 
   module _ (ne : n ≢ NONE) where
     -- the next row is what the table says of record n
-    pub standing-next : (sp : List ℕ) (ws : List Row) → Holds b sp s ws → (vs : List Row) × (ws ≡ us ++ rowOf b n ∷ vs)
-    standing-next sp ws h = let q = p .begins sp ws h in go (q .0) (q .1) (subst (Holds b sp s) (q .1) h)
+    pub standing-next : (sp : List ℕ) (ws : List Row) → RecordsHold b sp s ws → (vs : List Row) × (ws ≡ us ++ rowOf b n ∷ vs)
+    standing-next sp ws h = let q = p .begins sp ws h in go (q .0) (q .1) (subst (RecordsHold b sp s) (q .1) h)
       where
-        go : (vs : List Row) → ws ≡ us ++ vs → Holds b sp s (us ++ vs) → (vs : List Row) × (ws ≡ us ++ rowOf b n ∷ vs)
+        go : (vs : List Row) → ws ≡ us ++ vs → RecordsHold b sp s (us ++ vs) → (vs : List Row) × (ws ≡ us ++ rowOf b n ∷ vs)
         go [] q k = absurd (ne (p .next-is ∙ ap (up b s) (p .last) ∙ above-none b sp s us k))
         go (v ∷ vs) q k =
             let en : n ≡ v .num = p .next-is ∙ ap (up b s) (p .last) ∙ above-row b sp s us v vs k in
             let e : v ≡ rowOf b n = row-is b v (row-written b sp s us v vs k) ∙ ap (rowOf b) (sym en) in
             (vs, q ∙ ap (λ (w : Row). us ++ w ∷ vs) e)
 
-    here : (sp : List ℕ) (k : Sound b sp s) → Holds b sp s (us ++ rowOf b n ∷ standing-next sp (k .0) (k .1) .0)
-    here sp k = subst (Holds b sp s) (standing-next sp (k .0) (k .1) .1) (k .1)
+    here : (sp : List ℕ) (k : RecordsSound b sp s) → RecordsHold b sp s (us ++ rowOf b n ∷ standing-next sp (k .0) (k .1) .0)
+    here sp k = subst (RecordsHold b sp s) (standing-next sp (k .0) (k .1) .1) (k .1)
 
-    pub next-in : (sp : List ℕ) → Sound b sp s → (n < NONE) × InTable b n × (1 ≤ frequency b n) × (frequency b n ≤ CEILING)
+    pub next-in : (sp : List ℕ) → RecordsSound b sp s → (n < NONE) × InTable b n × (1 ≤ frequency b n) × (frequency b n ≤ CEILING)
     next-in sp k =
         let vs = standing-next sp (k .0) (k .1) .0 in
         let h = here sp k in
@@ -88,16 +88,16 @@ module _ (b : List ℕ) (s : Buckets) (us : List Row) (at n : ℕ) (p : Standing
       begins = λ sp ws h. let q = standing-next sp ws h in (q .0, q .1 ∙ sym (append-assoc us (rowOf b n ∷ []) (q .0)));
     }
 
-    pub rise-less : (sp : List ℕ) → Sound b sp s → (m : ℕ) → m ≡ up b s n → rise b m < rise b n
+    pub rise-less : (sp : List ℕ) → RecordsSound b sp s → (m : ℕ) → m ≡ up b s n → rise b m < rise b n
     rise-less sp k m em =
         let c = next-in sp k .3 in
         rw (if-other n NONE 0 (CEILING + 1 - frequency b n) ne)
         (if-eq (λ z. z < CEILING + 1 - frequency b n) m NONE (λ e. omega arith) (λ d. go (standing-next sp (k .0) (k .1) .0) (here sp k) d))
       where
-        go : (vs : List Row) → Holds b sp s (us ++ rowOf b n ∷ vs) → m ≢ NONE → CEILING + 1 - frequency b m < CEILING + 1 - frequency b n
+        go : (vs : List Row) → RecordsHold b sp s (us ++ rowOf b n ∷ vs) → m ≢ NONE → CEILING + 1 - frequency b m < CEILING + 1 - frequency b n
         go [] h d = absurd (d (em ∙ ap (up b s) (standing-more m em .last) ∙ above-none b sp s (us ++ rowOf b n ∷ []) (rw append-assoc h)))
         go (v ∷ vs) h d =
-            let h' : Holds b sp s ((us ++ rowOf b n ∷ []) ++ v ∷ vs) = rw append-assoc h in
+            let h' : RecordsHold b sp s ((us ++ rowOf b n ∷ []) ++ v ∷ vs) = rw append-assoc h in
             let ev : m ≡ v .num = em ∙ ap (up b s) (standing-more m em .last) ∙ above-row b sp s (us ++ rowOf b n ∷ []) v vs h' in
             let ef : frequency b m ≡ v .freq = ap (frequency b) ev ∙ row-written b sp s (us ++ rowOf b n ∷ []) v vs h' .freq-is in
             let ri = rising-around 0 (us ++ rowOf b n ∷ []) v vs (h' .rising) in
@@ -131,27 +131,27 @@ part-one f (u ∷ us) vs (u' ∷ us') vs' e a b c d =
     λ i. q i ∷ r i
 
 module _ (b : List ℕ) (s : Buckets) (f at n : ℕ) (p : Passed b s f at n) where
-  placed-by : ((sp : List ℕ) (vs : List Row) → Holds b sp s (p .0 ++ vs) → All (λ w. f ≤ w .freq) vs) → Places b s f at
+  placed-by : ((sp : List ℕ) (vs : List Row) → RecordsHold b sp s (p .0 ++ vs) → All (λ w. f ≤ w .freq) vs) → PlacesRecord b s f at
   placed-by k = record {
     place = λ sp us vs h hu hv.
         let q = p .1 .begins sp (us ++ vs) h in
-        let e = part-one f us vs (p .0) (q .0) (q .1) hu hv (p .2) (k sp (q .0) (subst (Holds b sp s) (q .1) h)) in
+        let e = part-one f us vs (p .0) (q .0) (q .1) hu hv (p .2) (k sp (q .0) (subst (RecordsHold b sp s) (q .1) h)) in
         p .1 .last ∙ ap (λ (l : List Row). final NONE (nums l)) (sym e);
   }
 
   -- no record is left
-  pub placed-end : n ≡ NONE → Places b s f at
+  pub placed-end : n ≡ NONE → PlacesRecord b s f at
   placed-end e = placed-by go
     where
-      go : (sp : List ℕ) (vs : List Row) → Holds b sp s (p .0 ++ vs) → All (λ w. f ≤ w .freq) vs
+      go : (sp : List ℕ) (vs : List Row) → RecordsHold b sp s (p .0 ++ vs) → All (λ w. f ≤ w .freq) vs
       go sp [] h = tt
       go sp (v ∷ vs) h = absurd (row-some b sp s (p .0) v vs h (sym (above-row b sp s (p .0) v vs h) ∙ ap (up b s) (sym (p .1 .last)) ∙ sym (p .1 .next-is) ∙ e))
 
   -- the next record is not below f
-  pub placed-here : n ≢ NONE → (x : ℕ) → x ≡ frequency b n → f ≤ x → Places b s f at
+  pub placed-here : n ≢ NONE → (x : ℕ) → x ≡ frequency b n → f ≤ x → PlacesRecord b s f at
   placed-here ne x ex l = placed-by go
     where
-      go : (sp : List ℕ) (vs : List Row) → Holds b sp s (p .0 ++ vs) → All (λ w. f ≤ w .freq) vs
+      go : (sp : List ℕ) (vs : List Row) → RecordsHold b sp s (p .0 ++ vs) → All (λ w. f ≤ w .freq) vs
       go sp [] h = tt
       go sp (v ∷ vs) h =
           let en : n ≡ v .num = p .1 .next-is ∙ ap (up b s) (p .1 .last) ∙ above-row b sp s (p .0) v vs h in
@@ -175,7 +175,7 @@ module _ (b sp : List ℕ) (s : Buckets) (at g n : ℕ) (en : n ≡ up b s at) w
     rows = λ us vs ea few one c hu hv h. (vs, inl (go us vs ea h, refl), h);
   }
     where
-      go : (us vs : List Row) → at ≡ final NONE (nums us) → Holds b sp s (us ++ vs) → (e : Ends) × (rest : List Row) × (vs ≡ row n g e ∷ rest)
+      go : (us vs : List Row) → at ≡ final NONE (nums us) → RecordsHold b sp s (us ++ vs) → (e : Ends) × (rest : List Row) × (vs ≡ row n g e ∷ rest)
       go us [] ea h = absurd (l .0 (en ∙ ap (up b s) ea ∙ above-none b sp s us h))
       go us (v ∷ vs) ea h =
           let e : v .num ≡ n = sym (en ∙ ap (up b s) ea ∙ above-row b sp s us v vs h) in
@@ -183,7 +183,7 @@ module _ (b sp : List ℕ) (s : Buckets) (at g n : ℕ) (en : n ≡ up b s at) w
           (v .ends, vs, λ i. row (e i) (f i) (v .ends) ∷ vs)
 
   -- it is not, and is made
-  pub opens-new : (HasLevel b n g → ⊥) → (b' sp' : List ℕ) (m : Made) → Makes b sp s at g b' sp' m → Opens b sp s at g b' sp' m
+  pub opens-new : (HasLevel b n g → ⊥) → (b' sp' : List ℕ) (m : Made) → MakesRecord b sp s at g b' sp' m → Opens b sp s at g b' sp' m
   opens-new l b' sp' m d = record {
     number-in = d .number-in;
     size = d .size;
@@ -193,7 +193,7 @@ module _ (b sp : List ℕ) (s : Buckets) (at g n : ℕ) (en : n ≡ up b s at) w
         let above = go us vs ea h hv in (row (m .number) g empty ∷ vs, inr (above, refl), d .rows us vs ea few one c hu above h);
   }
     where
-      go : (us vs : List Row) → at ≡ final NONE (nums us) → Holds b sp s (us ++ vs) → All (λ w. g ≤ w .freq) vs → All (λ w. g < w .freq) vs
+      go : (us vs : List Row) → at ≡ final NONE (nums us) → RecordsHold b sp s (us ++ vs) → All (λ w. g ≤ w .freq) vs → All (λ w. g < w .freq) vs
       go us [] ea h a = tt
       go us (v ∷ vs) ea h a =
           let e : v .num ≡ n = sym (en ∙ ap (up b s) ea ∙ above-row b sp s us v vs h) in

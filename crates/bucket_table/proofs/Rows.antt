@@ -16,7 +16,7 @@ use Rattle.links.proofs.Rings.{past, once, distinct, first}
 use Rattle.slot_arena.specs.Arena.{InUse}
 use Rattle.slot_arena.proofs.Uses.{uses-free}
 use Rattle.bucket_table.specs.declared.Buckets.{Buckets}
-use Rattle.bucket_table.specs.Records.{lower, up, down, InTable, Spot, Row, nums, Rising, Written, Holds}
+use Rattle.bucket_table.specs.Records.{lower, up, down, InTable, Spot, Row, nums, Written, RecordsHold, RowsRise}
 
 -- ---- lists of rows
 
@@ -28,29 +28,29 @@ all-nums Q ws h = images-all (λ w. w .num) Q ws h
 
 -- ---- rising
 
-pub rising-less : (f g : ℕ) (ws : List Row) → f ≤ g → Rising g ws → Rising f ws
+pub rising-less : (f g : ℕ) (ws : List Row) → f ≤ g → RowsRise g ws → RowsRise f ws
 rising-less f g [] l r = tt
 rising-less f g (w ∷ ws) l r = let a = r .0 in (omega arith, r .1, r .2)
 
 -- all rows have more than f
-pub rising-above : (f : ℕ) (ws : List Row) → Rising f ws → All (λ w. f < w .freq) ws
+pub rising-above : (f : ℕ) (ws : List Row) → RowsRise f ws → All (λ w. f < w .freq) ws
 rising-above f [] r = tt
 rising-above f (w ∷ ws) r =
     let a = r .0 in (a, all-map (λ v. w .freq < v .freq) (λ v. f < v .freq) (λ v l. omega arith) ws (rising-above (w .freq) ws (r .2)))
 
 -- the rows before one have less, and those after it more
-pub rising-around : (f : ℕ) (us : List Row) (w : Row) (vs : List Row) → Rising f (us ++ w ∷ vs)
+pub rising-around : (f : ℕ) (us : List Row) (w : Row) (vs : List Row) → RowsRise f (us ++ w ∷ vs)
     → All (λ u. u .freq < w .freq) us × (f < w .freq) × (w .freq ≤ CEILING) × All (λ v. w .freq < v .freq) vs
 rising-around f [] w vs r = (tt, r .0, r .1, rising-above (w .freq) vs (r .2))
 rising-around f (u ∷ us) w vs r =
     let m = rising-around (u .freq) us w vs (r .2) in let a = r .0 in let b = m .1 in ((b, m .0), omega arith, m .2, m .3)
 
-pub rising-out : (f : ℕ) (us : List Row) (w : Row) (vs : List Row) → Rising f (us ++ w ∷ vs) → Rising f (us ++ vs)
+pub rising-out : (f : ℕ) (us : List Row) (w : Row) (vs : List Row) → RowsRise f (us ++ w ∷ vs) → RowsRise f (us ++ vs)
 rising-out f [] w vs r = let a = r .0 in rising-less f (w .freq) vs (omega arith) (r .2)
 rising-out f (u ∷ us) w vs r = (r .0, r .1, rising-out (u .freq) us w vs (r .2))
 
 pub rising-in : (f : ℕ) (us : List Row) (w : Row) (vs : List Row) → f < w .freq → w .freq ≤ CEILING → All (λ u. u .freq < w .freq) us → All (λ v. w .freq < v .freq) vs
-    → Rising f (us ++ vs) → Rising f (us ++ w ∷ vs)
+    → RowsRise f (us ++ vs) → RowsRise f (us ++ w ∷ vs)
 rising-in f [] w [] l c hu hv r = (l, c, tt)
 rising-in f [] w (v ∷ vs) l c hu hv r = (l, c, (hv .0, r .1, r .2))
 rising-in f (u ∷ us) w vs l c hu hv r = (r .0, r .1, rising-in (u .freq) us w vs (hu .0) c (hu .1) hv (r .2))
@@ -58,7 +58,7 @@ rising-in f (u ∷ us) w vs l c hu hv r = (r .0, r .1, rising-in (u .freq) us w 
 -- ---- the rows that are held
 
 module _ (b sp : List ℕ) (s : Buckets) where
-  module _ (ws : List Row) (h : Holds b sp s ws) where
+  module _ (ws : List Row) (h : RecordsHold b sp s ws) where
     pub holds-limit : length sp ≤ NONE
     holds-limit = h .uses .sound .1 .limit
 
@@ -82,7 +82,7 @@ module _ (b sp : List ℕ) (s : Buckets) where
     room l = uses-free sp (s .spare) (nums ws) (h .uses) l
 
   -- rows in two parts
-  module _ (us vs : List Row) (h : Holds b sp s (us ++ vs)) where
+  module _ (us vs : List Row) (h : RecordsHold b sp s (us ++ vs)) where
     pub ring-parts : Links (up b s) (down b s) NONE (nums us ++ nums vs) NONE
     ring-parts = rw (nums-append us vs) at (h .ring)
 
@@ -98,11 +98,11 @@ module _ (b sp : List ℕ) (s : Buckets) where
         first (up b s) (down b s) (Spot b) (final NONE (nums us)) (nums vs) NONE (all-right (Spot b) (nums us) (nums vs) spots-parts) (inr refl)
         (past (up b s) (down b s) NONE (nums us) (nums vs) NONE ring-parts)
 
-  pub above-none : (us : List Row) → Holds b sp s (us ++ []) → up b s (final NONE (nums us)) ≡ NONE
+  pub above-none : (us : List Row) → RecordsHold b sp s (us ++ []) → up b s (final NONE (nums us)) ≡ NONE
   above-none us h = past (up b s) (down b s) NONE (nums us) [] NONE (ring-parts us [] h) .0
 
   -- a row in the middle
-  module _ (us : List Row) (w : Row) (vs : List Row) (h : Holds b sp s (us ++ w ∷ vs)) where
+  module _ (us : List Row) (w : Row) (vs : List Row) (h : RecordsHold b sp s (us ++ w ∷ vs)) where
     pub above-row : up b s (final NONE (nums us)) ≡ w .num
     above-row = past (up b s) (down b s) NONE (nums us) (nums (w ∷ vs)) NONE (ring-parts us (w ∷ vs) h) .0
 
@@ -133,5 +133,5 @@ module _ (b sp : List ℕ) (s : Buckets) where
     others-written = all-mid (Written b) us w vs (h .each) .1
 
   -- the record above a row's is that of the next row
-  pub next-row : (us : List Row) (w v : Row) (vs : List Row) → Holds b sp s (us ++ w ∷ v ∷ vs) → up b s (w .num) ≡ v .num
+  pub next-row : (us : List Row) (w v : Row) (vs : List Row) → RecordsHold b sp s (us ++ w ∷ v ∷ vs) → up b s (w .num) ≡ v .num
   next-row us w v vs h = past (up b s) (down b s) NONE (nums us) (nums (w ∷ v ∷ vs)) NONE (ring-parts us (w ∷ v ∷ vs) h) .2 .0

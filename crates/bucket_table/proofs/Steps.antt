@@ -17,9 +17,8 @@ use Rattle.slot_arena.specs.declared.Order.{Order}
 use Rattle.slot_arena.specs.declared.Taken.{Taken}
 use Rattle.slot_arena.proofs.Uses.{uses-take, uses-release, uses-filled}
 use Rattle.bucket_table.specs.declared.Buckets.{Buckets}
-use Rattle.bucket_table.specs.Records.{WORDS, word, frequency, lower, higher, head, tail, up, down, Spot, Row, row, empty, nums, Rising, Written, Holds}
-use Rattle.bucket_table.specs.Calls as calls
-use Rattle.bucket_table.specs.Calls.{Stored, Linked, SetEnds, SetOwner, Raises, Making, Makes, Drops, Resets}
+use Rattle.bucket_table.specs.Records.{WORDS, word, frequency, lower, higher, head, tail, up, down, Spot, Row, row, empty, nums, Written, RecordsHold, RowsRise}
+use Rattle.bucket_table.specs.Calls.{Stored, Linked, SetEnds, SetOwner, Raises, Making, Drops, MakesRecord, RecordsReset, RecordsFilled}
 use Rattle.bucket_table.proofs.Rows.{nums-append, all-nums, rising-around, rising-out, rising-in, clear, spots, ring-parts, above-spot, row-some, row-once, rows-others, row-written, others-written}
 
 -- a function at one place, by an equation of functions
@@ -33,10 +32,10 @@ still b b' w f h t m = record { freq-is = f ∙ m .freq-is; head-is = h ∙ m .h
 
 -- ---- a row that changes in its place
 
-module _ (b b' sp : List ℕ) (s : Buckets) (us : List Row) (r f : ℕ) (d : Ends) (vs : List Row) (h : Holds b sp s (us ++ row r f d ∷ vs)) where
+module _ (b b' sp : List ℕ) (s : Buckets) (us : List Row) (r f : ℕ) (d : Ends) (vs : List Row) (h : RecordsHold b sp s (us ++ row r f d ∷ vs)) where
   rewritten : (g : ℕ) (e : Ends) → length b' ≡ length b → lower b' ≡ lower b → higher b' ≡ higher b
       → ((k : ℕ) → k ≢ r → (frequency b' k ≡ frequency b k) × (head b' k ≡ head b k) × (tail b' k ≡ tail b k))
-      → Written b' (row r g e) → Rising 0 (us ++ row r g e ∷ vs) → Holds b' sp s (us ++ row r g e ∷ vs)
+      → Written b' (row r g e) → RowsRise 0 (us ++ row r g e ∷ vs) → RecordsHold b' sp s (us ++ row r g e ∷ vs)
   rewritten g e z lo hi kept mine rising =
       let en : nums (us ++ row r g e ∷ vs) ≡ nums (us ++ row r f d ∷ vs) = nums-append us (row r g e ∷ vs) ∙ sym (nums-append us (row r f d ∷ vs)) in
       record {
@@ -115,7 +114,7 @@ raised-to b r g b' d = record {
 -- ---- `make`
 
 module _ (b sp : List ℕ) (s : Buckets) (at₀ g : ℕ) (pre : Making b sp s at₀) (n : ℕ) (en : n ≡ up b s at₀) (sp' : List ℕ) (t : Taken) (tk : Takes sp (s .spare) sp' t)
-    (b₁ b₂ b' : List ℕ) (bot top : ℕ) (fl : calls.Filled b (t .slot .0) g at₀ n b₁) (l₂ : Linked 2 b₁ (s .bottom) at₀ (t .slot .0) b₂ bot) (l₁ : Linked 1 b₂ (s .top) n (t .slot .0) b' top) where
+    (b₁ b₂ b' : List ℕ) (bot top : ℕ) (fl : RecordsFilled b (t .slot .0) g at₀ n b₁) (l₂ : Linked 2 b₁ (s .bottom) at₀ (t .slot .0) b₂ bot) (l₁ : Linked 1 b₂ (s .top) n (t .slot .0) b' top) where
   abbrev q : ℕ
   q = t .slot .0
 
@@ -163,7 +162,7 @@ module _ (b sp : List ℕ) (s : Buckets) (at₀ g : ℕ) (pre : Making b sp s at
     tail-is = at _ _ q tails ∙ upd-same (tail b) q NONE;
   }
 
-  module _ (us vs : List Row) (ea : at₀ ≡ final NONE (nums us)) (few : length (nums (us ++ vs)) < length sp) (h : Holds b sp s (us ++ vs)) where
+  module _ (us vs : List Row) (ea : at₀ ≡ final NONE (nums us)) (few : length (nums (us ++ vs)) < length sp) (h : RecordsHold b sp s (us ++ vs)) where
     used : Uses sp' (t .order) (nums us ++ q ∷ nums vs) × Without q (nums us ++ nums vs)
     used = uses-take sp (s .spare) sp' t (nums us) (nums vs) tk (rw (nums-append us vs) at (h .uses)) (rw (nums-append us vs) at few)
 
@@ -178,7 +177,7 @@ module _ (b sp : List ℕ) (s : Buckets) (at₀ g : ℕ) (pre : Making b sp s at
         rw (ups (pre .place), downs n-spot, en, ea)
         (insert (up b s) (down b s) q NONE (nums us) (nums vs) NONE none-q none-q (used .1) (rw (nums-append us vs) at (clear b sp s (us ++ vs) h)) (ring-parts b sp s us vs h))
 
-    made-rows : Rising 0 (us ++ row q g empty ∷ vs) → Holds b' sp' s' (us ++ row q g empty ∷ vs)
+    made-rows : RowsRise 0 (us ++ row q g empty ∷ vs) → RecordsHold b' sp' s' (us ++ row q g empty ∷ vs)
     made-rows ri = record {
       size = sizes ∙ h .size ∙ ap (λ (k : ℕ). k * WORDS) (sym (tk .size));
       ring = rw (nums-append us (row q g empty ∷ vs)) ring;
@@ -189,7 +188,7 @@ module _ (b sp : List ℕ) (s : Buckets) (at₀ g : ℕ) (pre : Making b sp s at
       rising = ri;
     }
 
-  pub makes : Makes b sp s at₀ g b' sp' (record { number = q; state = s' })
+  pub makes : MakesRecord b sp s at₀ g b' sp' (record { number = q; state = s' })
   makes = record {
     number-in = let e = tk .slot in let l = pre .room in let z = pre .size in let w = sizes in omega arith;
     size = sizes;
@@ -208,7 +207,7 @@ module _ (b sp : List ℕ) (s : Buckets) (r lo hi : ℕ) (elo : lo ≡ lower b r
   others : (u : ℕ) → (u < WORDS) × (u ≢ 1) × (u ≢ 2) → word u b' ≡ word u b
   others u h = l₁ .rest u (h .0, h .1) ∙ l₂ .rest u (h .0, h .2)
 
-  module _ (us : List Row) (f : ℕ) (e : Ends) (vs : List Row) (h : Holds b sp s (us ++ row r f e ∷ vs)) where
+  module _ (us : List Row) (f : ℕ) (e : Ends) (vs : List Row) (h : RecordsHold b sp s (us ++ row r f e ∷ vs)) where
     r-some : r ≢ NONE
     r-some = row-some b sp s us (row r f e) vs h
 
@@ -232,7 +231,7 @@ module _ (b sp : List ℕ) (s : Buckets) (r lo hi : ℕ) (elo : lo ≡ lower b r
     up-is : up b' d' ≡ upd (up b s) lo hi
     up-is = rw (l₁ .rest 2 (omega arith)) (l₂ .made (sides .0))
 
-    dropped-rows : Holds b' sp' d' (us ++ vs)
+    dropped-rows : RecordsHold b' sp' d' (us ++ vs)
     dropped-rows =
         let no : NONE ≢ r = λ q. r-some (sym q) in
         record {
@@ -255,7 +254,7 @@ module _ (b sp : List ℕ) (s : Buckets) (r lo hi : ℕ) (elo : lo ≡ lower b r
 
 -- ---- `reset`
 
-pub resets : (sp sp' : List ℕ) (o : Order) → Filled sp 0 sp' o → Resets sp sp' (record { bottom = NONE; top = NONE; spare = o })
+pub resets : (sp sp' : List ℕ) (o : Order) → Filled sp 0 sp' o → RecordsReset sp sp' (record { bottom = NONE; top = NONE; spare = o })
 resets sp sp' o f = record {
   size = f .size;
   rows = λ b z. record {

@@ -10,7 +10,7 @@ use Rattle.numbers.specs.Marks.{NONE}
 use Rattle.links.specs.Ring.{upd}
 use Rattle.links.proofs.Functions.{is-upd, look-swap, look-upd}
 use Rattle.bucket_table.specs.Records.{WORDS, word, InTable}
-use Rattle.bucket_table.specs.Calls.{Stored, Linked, Filled}
+use Rattle.bucket_table.specs.Calls.{Stored, Linked, RecordsFilled}
 
 pub stored : (w : ℕ) (b : List ℕ) (r v : ℕ) → InTable b r → w < WORDS → Stored w b r v (set b (r * WORDS + w) v)
 stored w b r v fits wide = record {
@@ -52,7 +52,7 @@ module _ (b : List ℕ) (r f l h : ℕ) (b₁ b₂ b₃ b₄ b' : List ℕ) (s�
   before-it : (w v : ℕ) (c d : List ℕ) → word w d ≡ upd (word w c) r v → word w c ≡ word w b → word w d ≡ upd (word w b) r v
   before-it w v c d m e = m ∙ ap (λ (g : ℕ → ℕ). upd g r v) e
 
-  pub filled : Filled b r f l h b'
+  pub filled : RecordsFilled b r f l h b'
   filled = record {
     size = s₄ .size ∙ s₃ .size ∙ s₂ .size ∙ s₁ .size ∙ s₀ .size;
     frequencies = s₄ .rest 0 (omega arith) ∙ s₃ .rest 0 (omega arith) ∙ s₂ .rest 0 (omega arith) ∙ s₁ .rest 0 (omega arith) ∙ s₀ .made;

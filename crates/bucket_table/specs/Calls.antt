@@ -11,7 +11,7 @@ use Rattle.links.specs.Ring.{upd, look}
 use Rattle.links.specs.declared.Ends.{Ends}
 use Rattle.bucket_table.specs.declared.Buckets.{Buckets}
 use Rattle.bucket_table.specs.declared.Made.{Made}
-use Rattle.bucket_table.specs.Records.{WORDS, word, frequency, lower, higher, head, tail, owner, up, InTable, Spot, Row, row, empty, nums, Holds}
+use Rattle.bucket_table.specs.Records.{WORDS, word, frequency, lower, higher, head, tail, owner, up, InTable, Spot, Row, row, empty, nums, RecordsHold}
 
 -- ---- the words
 
@@ -28,7 +28,7 @@ pub record Linked (w : ℕ) (b : List ℕ) (e i v : ℕ) (b' : List ℕ) (e' : �
   pub rest : (u : ℕ) → (u < WORDS) × (u ≢ w) → word u b' ≡ word u b
 
 -- record r was written, with an empty list
-pub record Filled (b : List ℕ) (r f l h : ℕ) (b' : List ℕ) : Type 0 where
+pub record RecordsFilled (b : List ℕ) (r f l h : ℕ) (b' : List ℕ) : Type 0 where
   pub size : length b' ≡ length b
   pub frequencies : frequency b' ≡ upd (frequency b) r f
   pub lowers : lower b' ≡ upd (lower b) r l
@@ -43,19 +43,19 @@ pub record SetEnds (b : List ℕ) (r : ℕ) (e : Ends) (b' : List ℕ) : Type 0 
   pub size : length b' ≡ length b
   pub owners : owner b' ≡ owner b
   pub rows : (sp : List ℕ) (s : Buckets) (us : List Row) (f : ℕ) (d : Ends) (vs : List Row)
-      → Holds b sp s (us ++ row r f d ∷ vs) → Holds b' sp s (us ++ row r f e ∷ vs)
+      → RecordsHold b sp s (us ++ row r f d ∷ vs) → RecordsHold b' sp s (us ++ row r f e ∷ vs)
 
 pub record SetOwner (b : List ℕ) (x r : ℕ) (b' : List ℕ) : Type 0 where
   pub size : length b' ≡ length b
   pub owners : owner b' ≡ upd (owner b) x r
-  pub rows : (sp : List ℕ) (s : Buckets) (ws : List Row) → Holds b sp s ws → Holds b' sp s ws
+  pub rows : (sp : List ℕ) (s : Buckets) (ws : List Row) → RecordsHold b sp s ws → RecordsHold b' sp s ws
 
 -- a frequency that is raised, but not to that of a record above it
 pub record Raises (b : List ℕ) (r g : ℕ) (b' : List ℕ) : Type 0 where
   pub size : length b' ≡ length b
   pub owners : owner b' ≡ owner b
   pub rows : (sp : List ℕ) (s : Buckets) (us : List Row) (f : ℕ) (e : Ends) (vs : List Row)
-      → f ≤ g → g ≤ CEILING → All (λ w. g < w .freq) vs → Holds b sp s (us ++ row r f e ∷ vs) → Holds b' sp s (us ++ row r g e ∷ vs)
+      → f ≤ g → g ≤ CEILING → All (λ w. g < w .freq) vs → RecordsHold b sp s (us ++ row r f e ∷ vs) → RecordsHold b' sp s (us ++ row r g e ∷ vs)
 
 -- ---- more rows, or fewer
 
@@ -66,14 +66,14 @@ pub record Making (b sp : List ℕ) (s : Buckets) (at : ℕ) : Type 0 where
   pub room : s .spare .first < length sp
   pub place : Spot b at
 
-pub record Makes (b sp : List ℕ) (s : Buckets) (at g : ℕ) (b' sp' : List ℕ) (m : Made) : Type 0 where
+pub record MakesRecord (b sp : List ℕ) (s : Buckets) (at g : ℕ) (b' sp' : List ℕ) (m : Made) : Type 0 where
   pub number-in : InTable b' (m .number)
   pub size : length b' ≡ length b
   pub spares-size : length sp' ≡ length sp
   pub owners : owner b' ≡ owner b
   pub rows : (us vs : List Row) → at ≡ final NONE (nums us) → length (nums (us ++ vs)) < length sp
       → 1 ≤ g → g ≤ CEILING → All (λ w. w .freq < g) us → All (λ w. g < w .freq) vs
-      → Holds b sp s (us ++ vs) → Holds b' sp' (m .state) (us ++ row (m .number) g empty ∷ vs)
+      → RecordsHold b sp s (us ++ vs) → RecordsHold b' sp' (m .state) (us ++ row (m .number) g empty ∷ vs)
 
 -- the same, and what is above `at` is a record or NONE
 pub record Opening (b sp : List ℕ) (s : Buckets) (at : ℕ) : Type 0 where
@@ -91,7 +91,7 @@ pub record Opens (b sp : List ℕ) (s : Buckets) (at g : ℕ) (b' sp' : List ℕ
   pub owners : owner b' ≡ owner b
   pub rows : (us vs : List Row) → at ≡ final NONE (nums us) → length (nums (us ++ vs)) < length sp
       → 1 ≤ g → g ≤ CEILING → All (λ w. w .freq < g) us → All (λ w. g ≤ w .freq) vs
-      → Holds b sp s (us ++ vs) → (ws : List Row) × Opened (m .number) g vs ws × Holds b' sp' (m .state) (us ++ ws)
+      → RecordsHold b sp s (us ++ vs) → (ws : List Row) × Opened (m .number) g vs ws × RecordsHold b' sp' (m .state) (us ++ ws)
 
 pub record Dropping (b sp : List ℕ) (r : ℕ) : Type 0 where
   pub size : length b ≡ length sp * WORDS
@@ -101,12 +101,12 @@ pub record Drops (b sp : List ℕ) (s : Buckets) (r : ℕ) (b' sp' : List ℕ) (
   pub size : length b' ≡ length b
   pub spares-size : length sp' ≡ length sp
   pub owners : owner b' ≡ owner b
-  pub rows : (us : List Row) (f : ℕ) (e : Ends) (vs : List Row) → Holds b sp s (us ++ row r f e ∷ vs) → Holds b' sp' s' (us ++ vs)
+  pub rows : (us : List Row) (f : ℕ) (e : Ends) (vs : List Row) → RecordsHold b sp s (us ++ row r f e ∷ vs) → RecordsHold b' sp' s' (us ++ vs)
 
 -- no record is in use, whatever the table of records holds
-pub record Resets (sp sp' : List ℕ) (s : Buckets) : Type 0 where
+pub record RecordsReset (sp sp' : List ℕ) (s : Buckets) : Type 0 where
   pub size : length sp' ≡ length sp
-  pub rows : (b : List ℕ) → length b ≡ length sp * WORDS → Holds b sp' s []
+  pub rows : (b : List ℕ) → length b ≡ length sp * WORDS → RecordsHold b sp' s []
 
 -- ---- the search
 
@@ -115,5 +115,5 @@ abbrev pub HasLevel : List ℕ → ℕ → ℕ → Type 0
 HasLevel b n f = (n ≢ NONE) × (frequency b n ≡ f)
 
 -- r is the last record below frequency f
-pub record Places (b : List ℕ) (s : Buckets) (f r : ℕ) : Type 0 where
-  pub place : (sp : List ℕ) (us vs : List Row) → Holds b sp s (us ++ vs) → All (λ w. w .freq < f) us → All (λ w. f ≤ w .freq) vs → r ≡ final NONE (nums us)
+pub record PlacesRecord (b : List ℕ) (s : Buckets) (f r : ℕ) : Type 0 where
+  pub place : (sp : List ℕ) (us vs : List Row) → RecordsHold b sp s (us ++ vs) → All (λ w. w .freq < f) us → All (λ w. f ≤ w .freq) vs → r ≡ final NONE (nums us)

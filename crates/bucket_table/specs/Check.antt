@@ -6,13 +6,12 @@ use Prim.Native.Nat.{ℕ, _*_, _<_, _≤_}
 use lib.ListN.{length}
 use Rattle.numbers.specs.Marks.{LIMIT}
 use Rattle.numbers.specs.Frequency.{CEILING}
-use Rattle.slot_arena.specs.Arena.{InUse}
+use Rattle.slot_arena.specs.Arena.{InUse, ArenaSound}
 use Rattle.slot_arena.specs.Check.{usedIn}
-use Rattle.slot_arena.specs.Arena as arena
 use Rattle.bucket_table.specs.declared.Buckets.{Buckets}
-use Rattle.bucket_table.specs.Records.{WORDS, frequency, lower, Sound}
+use Rattle.bucket_table.specs.Records.{WORDS, frequency, lower, RecordsSound}
 
-pub record Sized (b sp : List ℕ) : Type 0 where
+pub record RecordsSized (b sp : List ℕ) : Type 0 where
   pub size : length b ≡ length sp * WORDS
   pub limit : length sp ≤ LIMIT
 
@@ -25,5 +24,5 @@ pub record RecordOk (b sp : List ℕ) (low at r : ℕ) : Type 0 where
 
 -- the walk says yes exactly where there are rows, as many as the arena has slots in use
 pub record RecordsWalk (b sp : List ℕ) (s : Buckets) (used : ℕ) (ok : Bool) : Type 0 where
-  pub good : used ≡ usedIn sp → arena.Sound sp (s .spare) → ok ≡ true → Sound b sp s
-  pub all : used ≡ usedIn sp → Sound b sp s → ok ≡ true
+  pub good : used ≡ usedIn sp → ArenaSound sp (s .spare) → ok ≡ true → RecordsSound b sp s
+  pub all : used ≡ usedIn sp → RecordsSound b sp s → ok ≡ true

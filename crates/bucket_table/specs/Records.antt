@@ -79,9 +79,9 @@ abbrev pub nums : List Row → List ℕ
 nums ws = map (λ w. w .num) ws
 
 -- the frequencies rise from above f on, to at most the ceiling
-abbrev pub Rising : ℕ → List Row → Type 0
-Rising f [] = Unit {0}
-Rising f (w ∷ ws) = (f < w .freq) × (w .freq ≤ CEILING) × Rising (w .freq) ws
+abbrev pub RowsRise : ℕ → List Row → Type 0
+RowsRise f [] = Unit {0}
+RowsRise f (w ∷ ws) = (f < w .freq) × (w .freq ≤ CEILING) × RowsRise (w .freq) ws
 
 -- the table has the row's frequency and ends
 pub record Written (b : List ℕ) (w : Row) : Type 0 where
@@ -90,13 +90,13 @@ pub record Written (b : List ℕ) (w : Row) : Type 0 where
   pub tail-is : tail b (w .num) ≡ w .ends .tail
 
 -- the tables hold the rows: linked both ways from the lowest up, and all other records spare
-pub record Holds (b sp : List ℕ) (s : Buckets) (ws : List Row) : Type 0 where
+pub record RecordsHold (b sp : List ℕ) (s : Buckets) (ws : List Row) : Type 0 where
   pub size : length b ≡ length sp * WORDS
   pub ring : Links (up b s) (down b s) NONE (nums ws) NONE
   pub uses : Uses sp (s .spare) (nums ws)
   pub each : All (Written b) ws
-  pub rising : Rising 0 ws
+  pub rising : RowsRise 0 ws
 
 -- the tables hold some rows
-abbrev pub Sound : List ℕ → List ℕ → Buckets → Type 0
-Sound b sp s = (ws : List Row) × Holds b sp s ws
+abbrev pub RecordsSound : List ℕ → List ℕ → Buckets → Type 0
+RecordsSound b sp s = (ws : List Row) × RecordsHold b sp s ws

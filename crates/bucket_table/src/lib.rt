@@ -4,8 +4,8 @@
 ghost use mathlib.Core.Path.{_≡_};
 ghost use mathlib.Core.Bool.{true};
 ghost use mathlib.Core.Logic.{_↔_};
-ghost use Rattle.bucket_table.specs.Records.{Sound};
-ghost use Rattle.bucket_table.specs.Check.{Sized, RecordOk, RecordsWalk};
+ghost use Rattle.bucket_table.specs.Check.{RecordOk, RecordsWalk, RecordsSized};
+ghost use Rattle.bucket_table.specs.Records.{RecordsSound};
 use numbers::NONE;
 use numbers::Slot;
 
@@ -30,7 +30,7 @@ pub struct Made {
 
 // Whether a record is in use, leads back to `at`, and has a frequency above `low`.
 fn record_ok(buckets: &[u64], spares: &[u64], low: u64, at: u64, number: u64) -> bool
-    requires { ⌜ Sized (now buckets) (now spares) ⌝ }
+    requires { ⌜ RecordsSized (now buckets) (now spares) ⌝ }
     ensures { λ r. ⌜ (r ≡ true) ↔ RecordOk (now (buckets .entry)) (now (spares .entry)) low at number ⌝ }
 {
     if !slot_arena::in_use(spares, Slot(number)) {
@@ -45,7 +45,7 @@ fn record_ok(buckets: &[u64], spares: &[u64], low: u64, at: u64, number: u64) ->
 
 // Walks the records, of which there are to be as many as the arena has slots in use.
 fn walk(buckets: &[u64], spares: &[u64], state: Buckets, used: u64) -> bool
-    requires { ⌜ Sized (now buckets) (now spares) ⌝ }
+    requires { ⌜ RecordsSized (now buckets) (now spares) ⌝ }
     ensures { λ r. ⌜ RecordsWalk (now (buckets .entry)) (now (spares .entry)) state used r ⌝ }
 {
     let mut number = state.bottom;
@@ -73,7 +73,7 @@ fn walk(buckets: &[u64], spares: &[u64], state: Buckets, used: u64) -> bool
 
 // Whether the tables hold records. Linear in the tables' length.
 pub fn is_sound(buckets: &[u64], spares: &[u64], state: Buckets) -> bool
-    ensures { λ r. ⌜ (r ≡ true) ↔ Sound (now (buckets .entry)) (now (spares .entry)) state ⌝ }
+    ensures { λ r. ⌜ (r ≡ true) ↔ RecordsSound (now (buckets .entry)) (now (spares .entry)) state ⌝ }
 {
     if !slot_arena::is_sound(spares, state.spare) {
         return false;

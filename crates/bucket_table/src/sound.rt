@@ -6,8 +6,8 @@ ghost use mathlib.Core.List.{List};
 ghost use Prim.Native.Nat.{ℕ, _<_, _≤_};
 ghost use lib.ListN.{length};
 ghost use Rattle.numbers.specs.Marks.{LIMIT};
-ghost use Rattle.bucket_table.specs.Records.{WORDS, word, frequency, head, tail, owner, lower, up, InTable, Spot, Sound};
-ghost use Rattle.bucket_table.specs.Calls.{Stored, Linked, Filled, SetEnds, SetOwner, HasLevel, Raises, Making, Makes, Opening, Opens, Dropping, Drops, Places, Resets};
+ghost use Rattle.bucket_table.specs.Records.{WORDS, word, frequency, head, tail, owner, lower, up, InTable, Spot, RecordsSound};
+ghost use Rattle.bucket_table.specs.Calls.{Stored, Linked, SetEnds, SetOwner, HasLevel, Raises, Making, Opening, Opens, Dropping, Drops, MakesRecord, RecordsReset, PlacesRecord, RecordsFilled};
 use crate::Buckets;
 use crate::Made;
 use crate::WORDS;
@@ -145,7 +145,7 @@ pub fn raise(buckets: &mut [u64], number: u64, frequency: Frequency)
 // Writes a record whose list is empty.
 fn fill(buckets: &mut [u64], number: u64, frequency: Frequency, lower: u64, higher: u64)
     requires { ⌜ InTable (now buckets) number ⌝ }
-    ensures { λ _. ⌜ Filled (now (buckets .entry)) number (frequency .0) lower higher (now (buckets .exit)) ⌝ }
+    ensures { λ _. ⌜ RecordsFilled (now (buckets .entry)) number (frequency .0) lower higher (now (buckets .exit)) ⌝ }
 {
     store(buckets, number, FREQUENCY, frequency.0);
     store(buckets, number, LOWER, lower);
@@ -163,7 +163,9 @@ pub fn make(
     frequency: Frequency,
 ) -> Made
     requires { ⌜ Making (now buckets) (now spares) state at ⌝ }
-    ensures { λ r. ⌜ Makes (now (buckets .entry)) (now (spares .entry)) state at (frequency .0) (now (buckets .exit)) (now (spares .exit)) r ⌝ }
+    ensures { λ r. ⌜ MakesRecord
+        (now (buckets .entry)) (now (spares .entry)) state at (frequency .0)
+        (now (buckets .exit)) (now (spares .exit)) r ⌝ }
 {
     let higher = above(&buckets[..], state, at);
     let taken = slot_arena::sound::take(spares, state.spare);
@@ -192,7 +194,9 @@ pub fn ensure(
     frequency: Frequency,
 ) -> Made
     requires { ⌜ Opening (now buckets) (now spares) state at ⌝ }
-    ensures { λ r. ⌜ Opens (now (buckets .entry)) (now (spares .entry)) state at (frequency .0) (now (buckets .exit)) (now (spares .exit)) r ⌝ }
+    ensures { λ r. ⌜ Opens
+        (now (buckets .entry)) (now (spares .entry)) state at (frequency .0)
+        (now (buckets .exit)) (now (spares .exit)) r ⌝ }
 {
     let number = above(&buckets[..], state, at);
     if is_level(&buckets[..], number, frequency) {
@@ -223,8 +227,8 @@ pub fn remove(buckets: &mut [u64], spares: &mut [u64], state: Buckets, number: u
 
 // The highest record below a frequency, NONE where there is none: a walk from the lowest record up.
 pub fn place(buckets: &[u64], state: Buckets, frequency: Frequency) -> u64
-    requires { ⌜ ((sp : List ℕ) × Sound (now buckets) sp state) ⌝ }
-    ensures { λ r. ⌜ Places (now (buckets .entry)) state (frequency .0) r ⌝ }
+    requires { ⌜ ((sp : List ℕ) × RecordsSound (now buckets) sp state) ⌝ }
+    ensures { λ r. ⌜ PlacesRecord (now (buckets .entry)) state (frequency .0) r ⌝ }
 {
     let mut at = NONE;
     let mut number = state.bottom;
@@ -241,7 +245,7 @@ pub fn place(buckets: &[u64], state: Buckets, frequency: Frequency) -> u64
 // No record: all are spare.
 pub fn reset(spares: &mut [u64]) -> Buckets
     requires { ⌜ length (now spares) ≤ LIMIT ⌝ }
-    ensures { λ r. ⌜ Resets (now (spares .entry)) (now (spares .exit)) r ⌝ }
+    ensures { λ r. ⌜ RecordsReset (now (spares .entry)) (now (spares .exit)) r ⌝ }
 {
     let spare = slot_arena::sound::fill(spares, 0);
     Buckets {

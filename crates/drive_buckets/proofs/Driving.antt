@@ -7,21 +7,22 @@ use Prim.Native.Nat.{ℕ}
 use borrow.Author.Tests.{ne-eqb}
 use Rattle.ledger.specs.Buckets.{Reply}
 use Rattle.ledger.specs.Calls.{BucketCall}
-use Rattle.frequency_tables.specs.declared.State.{State}
-use Rattle.frequency_tables.specs.Tables.{Tables}
-use Rattle.frequency_tables.specs.Lent.{Makes}
+use Rattle.promise.specs.Promise.{Makes}
+use Rattle.buckets_tables.specs.declared.State.{State}
+use Rattle.buckets_tables.specs.Tables.{Tables}
+use Rattle.buckets_tables.specs.Lent.{buckets}
 use Rattle.drive_lines.specs.declared.Told.{Told}
 use Rattle.drive_lines.specs.Lines.{text, replyText}
-use Rattle.drive_buckets.specs.Calls.{queryCall, epochCall, wholeCall, bucketCall, batchCall, Drives}
+use Rattle.drive_buckets.specs.Calls.{queryCall, epochCall, wholeCall, bucketCall, batchCall, DrivesBuckets}
 
 module _ (t : Tables) (s : State) (told : Told) (t' : Tables) (s' : State) where
   -- the call that an operation names was made, and its line is told
   pub made : (f : ℕ → Option BucketCall) (code m : ℕ) (c : BucketCall) → f m ≡ some c → code ≡ m → (r : Reply) (after : State) → text told ≡ replyText r → s' ≡ after →
-      Makes c t s r t' after → Drives (f code) t s told t' s'
+      Makes buckets c t s r t' after → DrivesBuckets (f code) t s told t' s'
   made f code m c named e r after line same w = rw (e, named, same) (r, line, w)
 
   -- what another function promises of the operation
-  pub sent : (o p : Option BucketCall) → o ≡ p → (line : Told) (after : State) → told ≡ line → s' ≡ after → Drives p t s line t' after → Drives o t s told t' s'
+  pub sent : (o p : Option BucketCall) → o ≡ p → (line : Told) (after : State) → told ≡ line → s' ≡ after → DrivesBuckets p t s line t' after → DrivesBuckets o t s told t' s'
   sent o p e line after same stays w = rw (e, same, stays) w
 
 -- Operations of another kind

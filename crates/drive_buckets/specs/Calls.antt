@@ -8,14 +8,13 @@ use lib.Dec.{eqb}
 use Rattle.numbers.specs.declared.Answer.{Answer}
 use Rattle.ledger.specs.Buckets.{Reply}
 use Rattle.ledger.specs.Calls.{BucketCall, Ask, PeekMin, MinFreq, Frequency, EntryEpoch, CurrentEpoch, Len, IsEmpty, Contains, Insert, Touch, TouchCapped, Remove, PopMin, SetEntryEpoch, SetEpoch, AdvanceEpoch, DecayHalve, RebaseMinFreq, Clear, InsertBatch, TouchBatch, RemoveBatch}
-use Rattle.frequency_tables.specs.declared.State.{State}
-use Rattle.frequency_tables.specs.Tables.{Tables}
-use Rattle.frequency_tables.specs.Lent.{buckets, Makes}
-use Rattle.frequency_tables.specs.Promise.{Checks}
-use Rattle.frequency_calls.specs.Replies.{plainReply}
-use Rattle.trace.specs.declared.Word.the-variants as word
+use Rattle.promise.specs.Promise.{Checks, Makes}
+use Rattle.buckets_tables.specs.declared.State.{State}
+use Rattle.buckets_tables.specs.Tables.{Tables}
+use Rattle.buckets_tables.specs.Lent.{buckets}
+use Rattle.answers.specs.Replies.{plainReply}
 use Rattle.drive_lines.specs.declared.Told.{Told}
-use Rattle.drive_lines.specs.declared.Told.the-variants.{Just}
+use Rattle.drive_lines.specs.Driving.{Stays}
 use Rattle.drive_lines.specs.Lines.{text, replyText}
 
 -- Operations
@@ -69,16 +68,12 @@ batchCall code ks =
 -- What is told and left
 
 -- the line of a reply that the call may give
-abbrev pub Shows : BucketCall → Tables → State → Told → Tables → State → Type 0
-Shows c t s told t' s' = (r : Reply) × (text told ≡ replyText r) × Makes c t s r t' s'
+abbrev pub ShowsBuckets : BucketCall → Tables → State → Told → Tables → State → Type 0
+ShowsBuckets c t s told t' s' = (r : Reply) × (text told ≡ replyText r) × Makes buckets c t s r t' s'
 
--- `BAD`, and all stays
-abbrev pub Leaves : Tables → State → Told → Tables → State → Type 0
-Leaves t s told t' s' = (told ≡ Just word.Bad) × (t' ≡ t) × (s' ≡ s)
-
-abbrev pub Drives : Option BucketCall → Tables → State → Told → Tables → State → Type 0
-Drives none t s told t' s' = Leaves t s told t' s'
-Drives (some c) t s told t' s' = Shows c t s told t' s'
+abbrev pub DrivesBuckets : Option BucketCall → Tables → State → Told → Tables → State → Type 0
+DrivesBuckets none t s told t' s' = Stays buckets t s told t' s'
+DrivesBuckets (some c) t s told t' s' = ShowsBuckets c t s told t' s'
 
 -- the line of what the check of every call answers
 abbrev pub Reports : Tables → State → Told → Type 0

@@ -1,10 +1,10 @@
 // The line and the state after a call, for the answers that `drive_lines` does not know.
 ghost use mathlib.Core.Path.{_≡_};
-ghost use Rattle.frequency_reads.specs.Replies.{epochReply};
+ghost use Rattle.answers.specs.Replies.{epochReply};
 ghost use Rattle.drive_lines.specs.Lines.{text, replyText};
+use answers::Dated;
 use drive_lines::Driven;
 use drive_lines::epoch;
-use frequency_epochs::Dated;
 
 // After a call that answers an epoch.
 pub(crate) fn dated(done: Dated) -> Driven

@@ -1,16 +1,16 @@
 // The batches of `drive`: the keys of one, and the operations that take them. The tables have the names of lib.rt.
 ghost use mathlib.Core.Path.{_≡_};
 ghost use lib.ListN.{length};
-ghost use Rattle.frequency_tables.specs.Tables.{tables};
-ghost use Rattle.drive_buckets.specs.Calls.{batchCall, keysFrom, Drives};
+ghost use Rattle.buckets_tables.specs.Slices.{before, after};
+ghost use Rattle.drive_buckets.specs.Calls.{batchCall, keysFrom, DrivesBuckets};
+use buckets_tables::State;
 use drive_lines::Driven;
 use drive_lines::Told;
 use drive_lines::after::counted;
 use drive_lines::after::stays;
-use frequency_batched::insert_batch;
-use frequency_batched::remove_batch;
-use frequency_batched::touch_batch;
-use frequency_tables::State;
+use frequency_buckets_batches::insert_batch;
+use frequency_buckets_batches::remove_batch;
+use frequency_buckets_batches::touch_batch;
 use trace::Word;
 
 // The keys of a batch: the first, the one after it and so on; 0 comes after the largest.
@@ -41,7 +41,9 @@ pub fn batch(
     items: &[u64],
     code: u8,
 ) -> Driven
-    ensures { λ r. ⌜ Drives (batchCall code (now (items .entry))) (tables (now (k .entry)) (now (f .entry)) (now (e .entry)) (now (p .entry)) (now (n .entry)) (now (ar .entry)) (now (ix .entry)) (now (bk .entry)) (now (sp .entry))) state (r .told) (tables (now (k .exit)) (now (f .exit)) (now (e .exit)) (now (p .exit)) (now (n .exit)) (now (ar .exit)) (now (ix .exit)) (now (bk .exit)) (now (sp .exit))) (r .state) ⌝ }
+    ensures { λ r. ⌜ DrivesBuckets (batchCall code (now (items .entry)))
+        (before k f e p n ar ix bk sp) state (r .told)
+        (after k f e p n ar ix bk sp) (r .state) ⌝ }
 {
     match code {
         60 => counted(insert_batch(k, f, e, p, n, ar, ix, bk, sp, state, items)),

@@ -1,8 +1,9 @@
 // The operations that are not about one key: on every key, on epochs, and those that only answer. Each function has those of its kind, and
 // sends the others on. The tables have the names of lib.rt.
-ghost use Rattle.frequency_tables.specs.Tables.{tables};
-ghost use Rattle.drive_buckets.specs.Calls.{queryCall, epochCall, wholeCall, Drives};
+ghost use Rattle.buckets_tables.specs.Slices.{before, after};
+ghost use Rattle.drive_buckets.specs.Calls.{queryCall, epochCall, wholeCall, DrivesBuckets};
 use crate::after::dated;
+use buckets_tables::State;
 use drive_lines::Driven;
 use drive_lines::Told;
 use drive_lines::after::stays;
@@ -13,21 +14,20 @@ use drive_lines::epoch;
 use drive_lines::least;
 use drive_lines::level;
 use drive_lines::plain;
-use frequency_epochs::advance_epoch;
-use frequency_epochs::set_entry_epoch;
-use frequency_epochs::set_epoch;
-use frequency_queries::contains;
-use frequency_queries::current_epoch;
-use frequency_queries::entry_epoch;
-use frequency_queries::frequency;
-use frequency_queries::is_empty;
-use frequency_queries::len;
-use frequency_queries::min_freq;
-use frequency_queries::peek_min;
-use frequency_tables::State;
-use frequency_whole::clear;
-use frequency_whole::decay_halve;
-use frequency_whole::rebase_min_freq;
+use frequency_buckets_epochs::advance_epoch;
+use frequency_buckets_epochs::set_entry_epoch;
+use frequency_buckets_epochs::set_epoch;
+use frequency_buckets_make::clear;
+use frequency_buckets_make::decay_halve;
+use frequency_buckets_make::rebase_min_freq;
+use frequency_buckets_queries::contains;
+use frequency_buckets_queries::current_epoch;
+use frequency_buckets_queries::entry_epoch;
+use frequency_buckets_queries::frequency;
+use frequency_buckets_queries::is_empty;
+use frequency_buckets_queries::len;
+use frequency_buckets_queries::min_freq;
+use frequency_buckets_queries::peek_min;
 use numbers::Key;
 use trace::Word;
 
@@ -46,7 +46,7 @@ pub(crate) fn asks(
     code: u8,
     a: u64,
 ) -> Told
-    ensures { λ r. ⌜ Drives (queryCall code a) (tables (now (k .entry)) (now (f .entry)) (now (e .entry)) (now (p .entry)) (now (n .entry)) (now (ar .entry)) (now (ix .entry)) (now (bk .entry)) (now (sp .entry))) state r (tables (now (k .entry)) (now (f .entry)) (now (e .entry)) (now (p .entry)) (now (n .entry)) (now (ar .entry)) (now (ix .entry)) (now (bk .entry)) (now (sp .entry))) state ⌝ }
+    ensures { λ r. ⌜ DrivesBuckets (queryCall code a) (before k f e p n ar ix bk sp) state r (before k f e p n ar ix bk sp) state ⌝ }
 {
     match code {
         6 => least(peek_min(k, f, e, p, n, ar, ix, bk, sp, state)),
@@ -77,7 +77,9 @@ pub(crate) fn dates(
     a: u64,
     b: u64,
 ) -> Driven
-    ensures { λ r. ⌜ Drives (epochCall code a b) (tables (now (k .entry)) (now (f .entry)) (now (e .entry)) (now (p .entry)) (now (n .entry)) (now (ar .entry)) (now (ix .entry)) (now (bk .entry)) (now (sp .entry))) state (r .told) (tables (now (k .entry)) (now (f .entry)) (now (e .exit)) (now (p .entry)) (now (n .entry)) (now (ar .entry)) (now (ix .entry)) (now (bk .entry)) (now (sp .entry))) (r .state) ⌝ }
+    ensures { λ r. ⌜ DrivesBuckets (epochCall code a b)
+        (before k f e p n ar ix bk sp) state (r .told)
+        (after k f e p n ar ix bk sp) (r .state) ⌝ }
 {
     match code {
         10 => stays(
@@ -109,7 +111,9 @@ pub(crate) fn whole(
     a: u64,
     b: u64,
 ) -> Driven
-    ensures { λ r. ⌜ Drives (wholeCall code a b) (tables (now (k .entry)) (now (f .entry)) (now (e .entry)) (now (p .entry)) (now (n .entry)) (now (ar .entry)) (now (ix .entry)) (now (bk .entry)) (now (sp .entry))) state (r .told) (tables (now (k .exit)) (now (f .exit)) (now (e .exit)) (now (p .exit)) (now (n .exit)) (now (ar .exit)) (now (ix .exit)) (now (bk .exit)) (now (sp .exit))) (r .state) ⌝ }
+    ensures { λ r. ⌜ DrivesBuckets (wholeCall code a b)
+        (before k f e p n ar ix bk sp) state (r .told)
+        (after k f e p n ar ix bk sp) (r .state) ⌝ }
 {
     match code {
         17 => stored(decay_halve(k, f, e, p, n, ar, ix, bk, sp, state)),

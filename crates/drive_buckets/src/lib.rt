@@ -1,7 +1,8 @@
 // The operations of `drive` on the frequency buckets, each a public call and the line of its answer. Every wide function lends the tables
 // in one order and by short names: k f e p n ar ix bk sp are keys, freqs, epochs, prevs, nexts, arena, index, buckets and spares.
-ghost use Rattle.frequency_tables.specs.Tables.{tables};
-ghost use Rattle.drive_buckets.specs.Calls.{bucketCall, Drives, Reports};
+ghost use Rattle.buckets_tables.specs.Slices.{before, after};
+ghost use Rattle.drive_buckets.specs.Calls.{bucketCall, Reports, DrivesBuckets};
+use buckets_tables::State;
 use cases::whole;
 use drive_lines::Driven;
 use drive_lines::Told;
@@ -14,7 +15,6 @@ use frequency_buckets::pop_min;
 use frequency_buckets::remove;
 use frequency_buckets::touch;
 use frequency_buckets::touch_capped;
-use frequency_tables::State;
 use numbers::Frequency;
 use numbers::Key;
 
@@ -38,7 +38,9 @@ pub fn act(
     a: u64,
     b: u64,
 ) -> Driven
-    ensures { λ r. ⌜ Drives (bucketCall code a b) (tables (now (k .entry)) (now (f .entry)) (now (e .entry)) (now (p .entry)) (now (n .entry)) (now (ar .entry)) (now (ix .entry)) (now (bk .entry)) (now (sp .entry))) state (r .told) (tables (now (k .exit)) (now (f .exit)) (now (e .exit)) (now (p .exit)) (now (n .exit)) (now (ar .exit)) (now (ix .exit)) (now (bk .exit)) (now (sp .exit))) (r .state) ⌝ }
+    ensures { λ r. ⌜ DrivesBuckets (bucketCall code a b)
+        (before k f e p n ar ix bk sp) state (r .told)
+        (after k f e p n ar ix bk sp) (r .state) ⌝ }
 {
     match code {
         1 => stored(insert(k, f, e, p, n, ar, ix, bk, sp, state, Key(a))),
@@ -76,7 +78,7 @@ pub fn check(
     sp: &[u64],
     state: State,
 ) -> Told
-    ensures { λ r. ⌜ Reports (tables (now (k .entry)) (now (f .entry)) (now (e .entry)) (now (p .entry)) (now (n .entry)) (now (ar .entry)) (now (ix .entry)) (now (bk .entry)) (now (sp .entry))) state r ⌝ }
+    ensures { λ r. ⌜ Reports (before k f e p n ar ix bk sp) state r ⌝ }
 {
-    plain(frequency_check::refusal(k, f, e, p, n, ar, ix, bk, sp, state))
+    plain(buckets_check::refusal(k, f, e, p, n, ar, ix, bk, sp, state))
 }

@@ -8,53 +8,54 @@ use Rattle.ledger.specs.Buckets.{Reply}
 use Rattle.ledger.specs.Cache.{Cache}
 use Rattle.ledger.specs.History.{CacheCall, Insert}
 use Rattle.ledger.specs.CacheCalls.{CacheOutcome}
-use Rattle.frequency_tables.specs.declared.State.{State}
-use Rattle.frequency_tables.specs.Promise.{Promised}
-use Rattle.lfu_tables.specs.Tables.{CacheTables}
-use Rattle.lfu_tables.specs.Lent.{cache, Makes}
-use Rattle.lfu_calls.specs.declared.Insertion.{Insertion}
-use Rattle.lfu_calls.specs.Replies.{insertionReply}
+use Rattle.promise.specs.Promise.{Promised, Makes}
+use Rattle.buckets_tables.specs.declared.State.{State}
+use Rattle.answers.specs.declared.Insertion.{Insertion}
+use Rattle.answers.specs.Replies.{insertionReply}
+use Rattle.cache_tables.specs.Tables.{CacheTables}
+use Rattle.cache_tables.specs.Lent.{cache}
 use Rattle.drive_lines.specs.declared.Told.{Told}
+use Rattle.drive_lines.specs.Driving.{Stays}
 use Rattle.drive_lines.specs.Lines.{text, replyText, insertionText}
-use Rattle.drive_cache.specs.Operations.{question, cacheCall, batchCall, Says, Leaves, Drives, DrivesAll}
+use Rattle.drive_cache.specs.Operations.{question, cacheCall, batchCall, Says, DrivesCache, DrivesCacheAll}
 
 -- The promise of a call, with its line and its state handed on
 
 module _ (t : CacheTables) (s : State) (told : Told) (t' : CacheTables) (s' s″ : State) (same : s″ ≡ s') where
-  pub batched : (f : Cache → CacheOutcome) (r : Reply) → text told ≡ replyText r → Promised cache f t s r t' s' → DrivesAll (some f) t s told t' s″
-  unfolding DrivesAll
+  pub batched : (f : Cache → CacheOutcome) (r : Reply) → text told ≡ replyText r → Promised cache f t s r t' s' → DrivesCacheAll (some f) t s told t' s″
+  unfolding DrivesCacheAll
   batched f r e p = (r, e, subst (λ (z : State). Promised cache f t s r t' z) (sym same) p)
 
-  pub called : (c : CacheCall) (r : Reply) → Says c told r → Makes c t s r t' s' → Drives (some c) t s told t' s″
-  unfolding Drives
-  called c r e p = (r, e, subst (λ (z : State). Makes c t s r t' z) (sym same) p)
+  pub called : (c : CacheCall) (r : Reply) → Says c told r → Makes cache c t s r t' s' → DrivesCache (some c) t s told t' s″
+  unfolding DrivesCache
+  called c r e p = (r, e, subst (λ (z : State). Makes cache c t s r t' z) (sym same) p)
 
-  pub bound : (k v : ℕ) (a : Insertion) → text told ≡ insertionText a → Makes (Insert k v) t s (insertionReply a) t' s' →
-      Drives (some (Insert k v)) t s told t' s″
+  pub bound : (k v : ℕ) (a : Insertion) → text told ≡ insertionText a → Makes cache (Insert k v) t s (insertionReply a) t' s' →
+      DrivesCache (some (Insert k v)) t s told t' s″
   bound k v a e p = called (Insert k v) (insertionReply a) (a, refl, e) p
 
 -- Which call an operation is
 
 module _ (t : CacheTables) (s : State) (told : Told) (t' : CacheTables) (s' : State) (code : ℕ) where
   module _ (m : ℕ) (e : code ≡ m) where
-    pub asked : (a : ℕ) → Drives (question m a) t s told t' s' → Drives (question code a) t s told t' s'
+    pub asked : (a : ℕ) → DrivesCache (question m a) t s told t' s' → DrivesCache (question code a) t s told t' s'
     asked a d = rw e d
 
-    pub acted : (a b : ℕ) → Drives (cacheCall m a b) t s told t' s' → Drives (cacheCall code a b) t s told t' s'
+    pub acted : (a b : ℕ) → DrivesCache (cacheCall m a b) t s told t' s' → DrivesCache (cacheCall code a b) t s told t' s'
     acted a b d = rw e d
 
-    pub acted-all : (ks : List ℕ) → DrivesAll (batchCall m ks) t s told t' s' → DrivesAll (batchCall code ks) t s told t' s'
+    pub acted-all : (ks : List ℕ) → DrivesCacheAll (batchCall m ks) t s told t' s' → DrivesCacheAll (batchCall code ks) t s told t' s'
     acted-all ks d = rw e d
 
-  pub asked-none : (a : ℕ) → (code ≡ 42 → ⊥) → (code ≡ 45 → ⊥) → (code ≡ 48 → ⊥) → Leaves t s told t' s' → Drives (question code a) t s told t' s'
-  unfolding Drives
+  pub asked-none : (a : ℕ) → (code ≡ 42 → ⊥) → (code ≡ 45 → ⊥) → (code ≡ 48 → ⊥) → Stays cache t s told t' s' → DrivesCache (question code a) t s told t' s'
+  unfolding DrivesCache
   asked-none a n1 n2 n3 d = rw (ne-eqb code 42 n1, ne-eqb code 45 n2, ne-eqb code 48 n3) d
 
   pub acted-else : (a b : ℕ) → (code ≡ 40 → ⊥) → (code ≡ 41 → ⊥) → (code ≡ 43 → ⊥) → (code ≡ 44 → ⊥) → (code ≡ 46 → ⊥) → (code ≡ 47 → ⊥) →
-      Drives (question code a) t s told t' s' → Drives (cacheCall code a b) t s told t' s'
+      DrivesCache (question code a) t s told t' s' → DrivesCache (cacheCall code a b) t s told t' s'
   acted-else a b n1 n2 n3 n4 n5 n6 d =
       rw (ne-eqb code 40 n1, ne-eqb code 41 n2, ne-eqb code 43 n3, ne-eqb code 44 n4, ne-eqb code 46 n5, ne-eqb code 47 n6) d
 
-  pub acted-none : (ks : List ℕ) → (code ≡ 63 → ⊥) → (code ≡ 64 → ⊥) → (code ≡ 65 → ⊥) → Leaves t s told t' s' → DrivesAll (batchCall code ks) t s told t' s'
-  unfolding DrivesAll
+  pub acted-none : (ks : List ℕ) → (code ≡ 63 → ⊥) → (code ≡ 64 → ⊥) → (code ≡ 65 → ⊥) → Stays cache t s told t' s' → DrivesCacheAll (batchCall code ks) t s told t' s'
+  unfolding DrivesCacheAll
   acted-none ks n1 n2 n3 d = rw (ne-eqb code 63 n1, ne-eqb code 64 n2, ne-eqb code 65 n3) d

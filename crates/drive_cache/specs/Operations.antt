@@ -10,16 +10,15 @@ use Rattle.ledger.specs.Buckets.{Reply}
 use Rattle.ledger.specs.Cache.{Cache}
 use Rattle.ledger.specs.History.{CacheCall, Insert, Get, Peek, Remove, Reset, PeekLfu, Evict, Clear, Len}
 use Rattle.ledger.specs.CacheCalls.{CacheOutcome, insertBatchCall, removeBatchCall, touchBatchCall}
-use Rattle.frequency_tables.specs.declared.State.{State}
-use Rattle.frequency_tables.specs.Promise.{Promised}
-use Rattle.lfu_tables.specs.Tables.{CacheTables}
-use Rattle.lfu_tables.specs.Lent.{cache, Makes}
-use Rattle.lfu_calls.specs.declared.Insertion.{Insertion}
-use Rattle.lfu_calls.specs.Replies.{insertionReply}
+use Rattle.promise.specs.Promise.{Promised, Makes}
+use Rattle.buckets_tables.specs.declared.State.{State}
+use Rattle.answers.specs.declared.Insertion.{Insertion}
+use Rattle.answers.specs.Replies.{insertionReply}
+use Rattle.cache_tables.specs.Tables.{CacheTables}
+use Rattle.cache_tables.specs.Lent.{cache}
 use Rattle.lfu_batches.specs.Batches.{pairs}
-use Rattle.trace.specs.declared.Word.the-variants.{Bad}
 use Rattle.drive_lines.specs.declared.Told.{Told}
-use Rattle.drive_lines.specs.declared.Told.the-variants.{Just}
+use Rattle.drive_lines.specs.Driving.{Stays}
 use Rattle.drive_lines.specs.Lines.{text, replyText, insertionText}
 
 -- the operations that only answer
@@ -58,15 +57,12 @@ Says Evict told r = text told ≡ replyText r
 Says Clear told r = text told ≡ replyText r
 Says Len told r = text told ≡ replyText r
 
-abbrev pub Leaves : CacheTables → State → Told → CacheTables → State → Type 0
-Leaves t s told t' s' = (told ≡ Just Bad) × (t' ≡ t) × (s' ≡ s)
-
 -- a single call, or none
-unfoldable pub Drives : Option CacheCall → CacheTables → State → Told → CacheTables → State → Type 0
-Drives none t s told t' s' = Leaves t s told t' s'
-Drives (some c) t s told t' s' = (r : Reply) × Says c told r × Makes c t s r t' s'
+unfoldable pub DrivesCache : Option CacheCall → CacheTables → State → Told → CacheTables → State → Type 0
+DrivesCache none t s told t' s' = Stays cache t s told t' s'
+DrivesCache (some c) t s told t' s' = (r : Reply) × Says c told r × Makes cache c t s r t' s'
 
 -- a batch, or none
-unfoldable pub DrivesAll : Option (Cache → CacheOutcome) → CacheTables → State → Told → CacheTables → State → Type 0
-DrivesAll none t s told t' s' = Leaves t s told t' s'
-DrivesAll (some f) t s told t' s' = (r : Reply) × (text told ≡ replyText r) × Promised cache f t s r t' s'
+unfoldable pub DrivesCacheAll : Option (Cache → CacheOutcome) → CacheTables → State → Told → CacheTables → State → Type 0
+DrivesCacheAll none t s told t' s' = Stays cache t s told t' s'
+DrivesCacheAll (some f) t s told t' s' = (r : Reply) × (text told ≡ replyText r) × Promised cache f t s r t' s'

@@ -1,8 +1,8 @@
 // The cache's operations of `drive`: each is one public call, and what is told of its answer. The tables are named k f e p n ar ix bk sp vs:
 // keys, freqs, epochs, prevs, nexts, arena, index, buckets, spares and values.
-ghost use Rattle.frequency_tables.specs.Tables.{tables};
-ghost use Rattle.lfu_tables.specs.Tables.{withValues};
-ghost use Rattle.drive_cache.specs.Operations.{question, cacheCall, batchCall, Drives, DrivesAll};
+ghost use Rattle.cache_tables.specs.Slices.{before, after};
+ghost use Rattle.drive_cache.specs.Operations.{question, cacheCall, batchCall, DrivesCache, DrivesCacheAll};
+use buckets_tables::State;
 use drive_lines::Driven;
 use drive_lines::Told;
 use drive_lines::after::counted;
@@ -14,7 +14,6 @@ use drive_lines::after::valued;
 use drive_lines::cached::least;
 use drive_lines::cached::value;
 use drive_lines::count;
-use frequency_tables::State;
 use lfu::evict_min_freq;
 use lfu::get;
 use lfu::insert;
@@ -23,10 +22,10 @@ use lfu::reset_frequency;
 use lfu_batches::insert_batch;
 use lfu_batches::remove_batch;
 use lfu_batches::touch_batch;
+use lfu_make::clear;
 use lfu_queries::len;
 use lfu_queries::peek;
 use lfu_queries::peek_lfu;
-use lfu_whole::clear;
 use numbers::Key;
 use trace::Word;
 
@@ -46,7 +45,7 @@ pub fn asks(
     code: u8,
     a: u64,
 ) -> Told
-    ensures { λ r. ⌜ Drives (question code a) (withValues (tables (now (k .entry)) (now (f .entry)) (now (e .entry)) (now (p .entry)) (now (n .entry)) (now (ar .entry)) (now (ix .entry)) (now (bk .entry)) (now (sp .entry))) (now (vs .entry))) state r (withValues (tables (now (k .entry)) (now (f .entry)) (now (e .entry)) (now (p .entry)) (now (n .entry)) (now (ar .entry)) (now (ix .entry)) (now (bk .entry)) (now (sp .entry))) (now (vs .entry))) state ⌝ }
+    ensures { λ r. ⌜ DrivesCache (question code a) (before k f e p n ar ix bk sp vs) state r (before k f e p n ar ix bk sp vs) state ⌝ }
 {
     match code {
         42 => value(peek(k, f, e, p, n, ar, ix, bk, sp, vs, state, Key(a))),
@@ -73,7 +72,9 @@ pub fn act(
     a: u64,
     b: u64,
 ) -> Driven
-    ensures { λ r. ⌜ Drives (cacheCall code a b) (withValues (tables (now (k .entry)) (now (f .entry)) (now (e .entry)) (now (p .entry)) (now (n .entry)) (now (ar .entry)) (now (ix .entry)) (now (bk .entry)) (now (sp .entry))) (now (vs .entry))) state (r .told) (withValues (tables (now (k .exit)) (now (f .exit)) (now (e .exit)) (now (p .exit)) (now (n .exit)) (now (ar .exit)) (now (ix .exit)) (now (bk .exit)) (now (sp .exit))) (now (vs .exit))) (r .state) ⌝ }
+    ensures { λ r. ⌜ DrivesCache (cacheCall code a b)
+        (before k f e p n ar ix bk sp vs) state (r .told)
+        (after k f e p n ar ix bk sp vs) (r .state) ⌝ }
 {
     match code {
         40 => inserted(insert(k, f, e, p, n, ar, ix, bk, sp, vs, state, Key(a), b)),
@@ -105,7 +106,9 @@ pub fn batch(
     items: &[u64],
     code: u8,
 ) -> Driven
-    ensures { λ r. ⌜ DrivesAll (batchCall code (now (items .entry))) (withValues (tables (now (k .entry)) (now (f .entry)) (now (e .entry)) (now (p .entry)) (now (n .entry)) (now (ar .entry)) (now (ix .entry)) (now (bk .entry)) (now (sp .entry))) (now (vs .entry))) state (r .told) (withValues (tables (now (k .exit)) (now (f .exit)) (now (e .exit)) (now (p .exit)) (now (n .exit)) (now (ar .exit)) (now (ix .exit)) (now (bk .exit)) (now (sp .exit))) (now (vs .exit))) (r .state) ⌝ }
+    ensures { λ r. ⌜ DrivesCacheAll (batchCall code (now (items .entry)))
+        (before k f e p n ar ix bk sp vs) state (r .told)
+        (after k f e p n ar ix bk sp vs) (r .state) ⌝ }
 {
     match code {
         63 => counted(insert_batch(k, f, e, p, n, ar, ix, bk, sp, vs, state, items, items)),

@@ -7,8 +7,8 @@ use native.Mathlib.Omega.{arith}
 use lib.Arith.{lt-of-le-ne}
 use lib.ListN.{set, List·getD-eq-default}
 use lib.Seq.{set-getD}
-use Rattle.frequency_tables.specs.declared.State.{State}
-use Rattle.lfu_tables.specs.Tables.{CacheTables}
+use Rattle.buckets_tables.specs.declared.State.{State}
+use Rattle.cache_tables.specs.Tables.{CacheTables}
 use Rattle.trace.specs.declared.Word.{Word}
 use Rattle.trace.specs.declared.Word.the-variants.{Okay, Bad}
 use Rattle.drive_damage.specs.Damage.{PLACES, Puts, listed, named, Stores, Damages, fields, Alters}

@@ -3,8 +3,8 @@ use mathlib.Core.Path.{_≡_}
 use mathlib.Core.List.{List, [], _∷_}
 use Prim.Native.Nat.{ℕ, _<_, _≤_, _/_, _%_}
 use lib.ListN.{length, getD, set}
-use Rattle.frequency_tables.specs.declared.State.{State}
-use Rattle.lfu_tables.specs.Tables.{CacheTables}
+use Rattle.buckets_tables.specs.declared.State.{State}
+use Rattle.cache_tables.specs.Tables.{CacheTables}
 use Rattle.trace.specs.declared.Word.{Word}
 use Rattle.trace.specs.declared.Word.the-variants.{Okay, Bad}
 

@@ -1,9 +1,8 @@
 // The damage that `drive` does on demand: one number put into a table or into the state, whatever it breaks there. The tables are named k f
 // e p n ar ix bk sp vs: keys, freqs, epochs, prevs, nexts, arena, index, buckets, spares and values.
-ghost use Rattle.frequency_tables.specs.Tables.{tables};
-ghost use Rattle.lfu_tables.specs.Tables.{withValues};
+ghost use Rattle.cache_tables.specs.Slices.{before, after};
 ghost use Rattle.drive_damage.specs.Damage.{Puts, Damages, Alters};
-use frequency_tables::State;
+use buckets_tables::State;
 use trace::Word;
 
 // How many places each table is given in the numbers of places.
@@ -42,7 +41,7 @@ pub fn store(
     a: u64,
     b: u64,
 ) -> Word
-    ensures { λ r. ⌜ Damages a b (withValues (tables (now (k .entry)) (now (f .entry)) (now (e .entry)) (now (p .entry)) (now (n .entry)) (now (ar .entry)) (now (ix .entry)) (now (bk .entry)) (now (sp .entry))) (now (vs .entry))) r (withValues (tables (now (k .exit)) (now (f .exit)) (now (e .exit)) (now (p .exit)) (now (n .exit)) (now (ar .exit)) (now (ix .exit)) (now (bk .exit)) (now (sp .exit))) (now (vs .exit))) ⌝ }
+    ensures { λ r. ⌜ Damages a b (before k f e p n ar ix bk sp vs) r (after k f e p n ar ix bk sp vs) ⌝ }
 {
     let place = a % PLACES;
     match a / PLACES {

@@ -5,8 +5,8 @@ use Prim.Native.Nat.{ℕ, _+_}
 use Rattle.numbers.specs.Answer.{numberOf}
 use Rattle.numbers.specs.declared.Answer.the-variants.{Done}
 use Rattle.ledger.specs.Buckets.{Reply, done, refused, number}
-use Rattle.lfu_calls.specs.declared.Insertion.{Insertion}
-use Rattle.lfu_calls.specs.declared.Insertion.the-variants as insertion
+use Rattle.answers.specs.declared.Insertion.{Insertion}
+use Rattle.answers.specs.declared.Insertion.the-variants as insertion
 use Rattle.trace.specs.declared.Line.{Line}
 use Rattle.trace.specs.declared.Line.the-variants as line
 use Rattle.trace.specs.declared.Word.the-variants as word
@@ -49,5 +49,5 @@ text (told.Stored l) = doneLine l
 text (told.Just w) = trace.text (line.Plain w)
 
 -- room for a number, a blank and a line of the trace program
-abbrev pub LONGEST : ℕ
-LONGEST = DIGITS + (1 + trace.LONGEST)
+abbrev pub LONGEST_TOLD : ℕ
+LONGEST_TOLD = DIGITS + (1 + trace.LONGEST)

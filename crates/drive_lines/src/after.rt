@@ -1,8 +1,6 @@
 // The line and the state that a call leaves, for each pair of an answer and a state that a call gives.
 ghost use mathlib.Core.Path.{_≡_};
-ghost use Rattle.frequency_reads.specs.Replies.{levelReply, leastReply, countReply};
-ghost use Rattle.frequency_calls.specs.Replies.{plainReply};
-ghost use Rattle.lfu_calls.specs.Replies as cache;
+ghost use Rattle.answers.specs.Replies.{plainReply, levelReply, leastReply, countReply, valueReply, leastUsedReply};
 ghost use Rattle.drive_lines.specs.Lines.{text, replyText, insertionText};
 use crate::Driven;
 use crate::Told;
@@ -11,14 +9,14 @@ use crate::count;
 use crate::least;
 use crate::level;
 use crate::plain;
-use frequency_batches::Counted;
-use frequency_calls::Leveled;
-use frequency_calls::Popped;
-use frequency_calls::Stored;
-use frequency_tables::State;
-use lfu_calls::Evicted;
-use lfu_calls::Inserted;
-use lfu_calls::Valued;
+use answers::Counted;
+use answers::Evicted;
+use answers::Inserted;
+use answers::Leveled;
+use answers::Popped;
+use answers::Stored;
+use answers::Valued;
+use buckets_tables::State;
 
 // A line, and a state that stays as it is.
 pub fn stays(state: State, told: Told) -> Driven
@@ -80,7 +78,7 @@ pub fn inserted(done: Inserted) -> Driven
 
 // After a call that answers a value.
 pub fn valued(done: Valued) -> Driven
-    ensures { λ r. ⌜ (text (r .told) ≡ replyText (cache.valueReply (done .answer))) × (r .state ≡ done .state) ⌝ }
+    ensures { λ r. ⌜ (text (r .told) ≡ replyText (valueReply (done .answer))) × (r .state ≡ done .state) ⌝ }
 {
     let answer = done.answer;
     let state = done.state;
@@ -92,7 +90,7 @@ pub fn valued(done: Valued) -> Driven
 
 // After a call that answers a key and its value.
 pub fn evicted(done: Evicted) -> Driven
-    ensures { λ r. ⌜ (text (r .told) ≡ replyText (cache.leastReply (done .answer))) × (r .state ≡ done .state) ⌝ }
+    ensures { λ r. ⌜ (text (r .told) ≡ replyText (leastUsedReply (done .answer))) × (r .state ≡ done .state) ⌝ }
 {
     let answer = done.answer;
     let state = done.state;

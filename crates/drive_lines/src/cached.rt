@@ -1,11 +1,11 @@
 // The line of each answer of a cache call.
 ghost use mathlib.Core.Path.{_≡_};
-ghost use Rattle.lfu_calls.specs.Replies.{valueReply, leastReply};
+ghost use Rattle.answers.specs.Replies.{valueReply, leastUsedReply};
 ghost use Rattle.drive_lines.specs.Lines.{text, replyText, insertionText};
 use crate::Told;
-use lfu_calls::Insertion;
-use lfu_calls::Least;
-use lfu_calls::Value;
+use answers::Insertion;
+use answers::LeastUsed;
+use answers::Value;
 use trace::Line;
 use trace::Word;
 
@@ -32,11 +32,11 @@ pub fn value(answer: Value) -> Told
 }
 
 // A call that answers a key and its value.
-pub fn least(answer: Least) -> Told
-    ensures { λ r. ⌜ text r ≡ replyText (leastReply answer) ⌝ }
+pub fn least(answer: LeastUsed) -> Told
+    ensures { λ r. ⌜ text r ≡ replyText (leastUsedReply answer) ⌝ }
 {
     match answer {
-        Least::Is(key, value) => Told::Two(key.0, value),
-        Least::Refused(why) => Told::Alone(why),
+        LeastUsed::Is(key, value) => Told::Two(key.0, value),
+        LeastUsed::Refused(why) => Told::Alone(why),
     }
 }

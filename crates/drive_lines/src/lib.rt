@@ -1,15 +1,14 @@
 // The lines of `drive`: document 01's number and the values of an answer, or a word; and the line of each answer of a public call. Writing
 // one into a buffer stands in `sound`.
 ghost use mathlib.Core.Path.{_≡_};
-ghost use Rattle.frequency_reads.specs.Replies.{levelReply, leastReply, epochReply, countReply, askedReply};
-ghost use Rattle.frequency_calls.specs.Replies.{plainReply};
+ghost use Rattle.answers.specs.Replies.{levelReply, leastReply, epochReply, countReply, askedReply, plainReply};
 ghost use Rattle.drive_lines.specs.Lines.{text, replyText};
-use frequency_reads::Asked;
-use frequency_reads::Count;
-use frequency_reads::Epoch;
-use frequency_reads::Least;
-use frequency_reads::Level;
-use frequency_tables::State;
+use answers::Asked;
+use answers::Count;
+use answers::Epoch;
+use answers::Least;
+use answers::Level;
+use buckets_tables::State;
 use numbers::Answer;
 use trace::Line;
 use trace::Word;

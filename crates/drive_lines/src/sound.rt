@@ -2,7 +2,7 @@
 ghost use Prim.Native.Nat.{_+_, _≤_};
 ghost use lib.ListN.{length};
 ghost use Rattle.trace.specs.Written.{Spells};
-ghost use Rattle.drive_lines.specs.Lines.{text, LONGEST};
+ghost use Rattle.drive_lines.specs.Lines.{text, LONGEST_TOLD};
 use crate::Told;
 use trace::Line;
 use trace::sound::number;
@@ -11,8 +11,8 @@ use trace::sound::spaced;
 
 // A line, with its line feed. DONE is document 01's number 0.
 pub fn write(out: &mut [u8], at: usize, told: Told) -> usize
-    requires { ⌜ at + LONGEST ≤ length (now out) ⌝ }
-    ensures { λ r. ⌜ Spells (now (out .entry)) at (text told) LONGEST (now (out .exit)) r ⌝ }
+    requires { ⌜ at + LONGEST_TOLD ≤ length (now out) ⌝ }
+    ensures { λ r. ⌜ Spells (now (out .entry)) at (text told) LONGEST_TOLD (now (out .exit)) r ⌝ }
 {
     match told {
         Told::Alone(answer) => {

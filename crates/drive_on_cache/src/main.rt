@@ -1,4 +1,4 @@
 // The program `drive` on a run of cache calls, held to what the original answered.
 fn main() {
-    drive_turns::drive();
+    drive_loop::drive();
 }

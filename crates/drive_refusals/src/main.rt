@@ -1,5 +1,5 @@
 // The program `drive` on calls that are refused, on damaged tables and on sound ones. Its stdin is examples/refused.txt; its stdout was written
 // by hand from document 01.
 fn main() {
-    drive_turns::drive();
+    drive_loop::drive();
 }

@@ -14,27 +14,27 @@ use Rattle.numbers.specs.declared.Answer.the-variants.{Done, Corrupt, Short, Ca
 use Rattle.lists.proofs.Tests.{if-eq}
 use Rattle.ledger.specs.Ledger.{Entry, Level, Ledger, Item, tag, items}
 use Rattle.ledger.specs.Buckets.{refused}
-use Rattle.ledger.specs.Calls.{asks, calls, WalkStart}
+use Rattle.ledger.specs.Calls.{asks, calls, Ask, WalkStart}
 use Rattle.ledger.specs.Walk as ledger
 use Rattle.ledger.specs.Walk.{listOf, head, start, step}
 use Rattle.ledger.proofs.Slots.{size-and-free}
 use Rattle.ledger.proofs.Walked.{walk-shows}
-use Rattle.frequency_tables.specs.declared.State.{State}
-use Rattle.frequency_tables.specs.Tables.{Tables, tables}
-use Rattle.frequency_tables.specs.Holds.{Holds}
-use Rattle.frequency_tables.specs.Lent.{buckets, Answers}
-use Rattle.frequency_tables.specs.Promise.{over, short, corrupt, ledger, Reads}
-use Rattle.frequency_walk.specs.declared.Step.{Step}
-use Rattle.frequency_walk.specs.declared.Step.the-variants.{Here, NoMore, Refused}
-use Rattle.frequency_walk.proofs.Step.{the-type}
-use Rattle.frequency_walk.specs.Replies.{stepReply}
-use Rattle.frequency_walk.specs.Walks.{Walkable}
+use Rattle.promise.specs.Promise.{over, short, corrupt, ledger, Reads, Answers}
+use Rattle.buckets_tables.specs.declared.State.{State}
+use Rattle.buckets_tables.specs.Tables.{Tables, tables}
+use Rattle.buckets_tables.specs.Holds.{Holds}
+use Rattle.buckets_tables.specs.Lent.{buckets}
+use Rattle.answers.specs.declared.Step.{Step}
+use Rattle.answers.specs.declared.Step.the-variants.{Here, NoMore, Refused}
+use Rattle.answers.specs.Replies.{stepReply}
+use Rattle.answers.proofs.Step.{the-type}
+use Rattle.buckets_walk.specs.Walks.{Walkable}
 use Rattle.trace.specs.Lines.{DIGITS, FEED, decimal}
 use Rattle.trace.specs.Written.{Writes, Spells}
 use Rattle.trace.proofs.Writing.{spells-then, spelled, spells-more}
 use Rattle.drive_lines.specs.declared.Told.the-variants.{Alone}
-use Rattle.drive_lines.specs.Lines.{text, LONGEST}
-use Rattle.drive_walk.specs.Walk.{itemsText, ITEM, WALK, Shows, Lists, Prints}
+use Rattle.drive_lines.specs.Lines.{text, LONGEST_TOLD}
+use Rattle.drive_walk.specs.Walk.{itemsText, ITEM, WALK, Lists, WalkPrints, StepsShow}
 
 -- The list is short
 
@@ -65,12 +65,12 @@ head-unrefused [] w q = let c : _≡_ {A = ℕ} 0 1 = cc in omega arith
 head-unrefused (x ∷ xs) w q = let c : _≡_ {A = ℕ} 0 1 = cc in omega arith
 
 module _ (t : Tables) (s : State) (g : ℕ) (first : Step) (w : Answer) (is : stepReply first ≡ refused w) (out : List ℕ) (at : ℕ) (out' : List ℕ) (r : ℕ) where
-  alone : Spells out at (text (Alone w)) LONGEST out' r → (v : Answer) → stepReply first ≡ refused v → Spells out at (text (Alone v)) WALK out' r
+  alone : Spells out at (text (Alone w)) LONGEST_TOLD out' r → (v : Answer) → stepReply first ≡ refused v → Spells out at (text (Alone v)) WALK out' r
   alone wrote v q =
       let same : w ≡ v = cc in
-      subst (λ (z : Answer). Spells out at (text (Alone z)) WALK out' r) same (spells-more out at (text (Alone w)) out' r LONGEST WALK (omega arith) wrote)
+      subst (λ (z : Answer). Spells out at (text (Alone z)) WALK out' r) same (spells-more out at (text (Alone w)) out' r LONGEST_TOLD WALK (omega arith) wrote)
 
-  pub refuses : Answers (WalkStart g) t s (stepReply first) → Spells out at (text (Alone w)) LONGEST out' r → Prints g t s out at out' r
+  pub refuses : Answers buckets (Ask (WalkStart g)) t s (stepReply first) → Spells out at (text (Alone w)) LONGEST_TOLD out' r → WalkPrints g t s out at out' r
   unfolding calls asks start
   refuses (over, reads, d) wrote = (over, reads, alone wrote Capacity (d .answer))
   refuses (short, reads, d) wrote = (short, reads, alone wrote Short (d .answer))
@@ -82,7 +82,7 @@ module _ (t : Tables) (s : State) (g : ℕ) (first : Step) (w : Answer) (is : st
 module _ (k f e p n a i b sp : List ℕ) (s : State) where
   -- the steps answer what the ledger's do
   shown : (l : Ledger) → Holds (tables k f e p n a i b sp) s l → (xs : List Item) (there : ledger.Step) (st : Step) → ledger.Shows l there xs →
-      stepReply st ≡ ledger.stepReply there → Shows k f e n st xs
+      stepReply st ≡ ledger.stepReply there → StepsShow k f e n st xs
   unfolding asks
   shown l h [] there st w q = q ∙ ap ledger.stepReply w
   shown l h (x ∷ xs) there st w q =
@@ -95,7 +95,7 @@ module _ (k f e p n a i b sp : List ℕ) (s : State) where
       pub reads : Reads buckets (tables k f e p n a i b sp) s (ledger held)
       pub starts : stepReply first ≡ ledger.stepReply (start g held)
 
-    pub found : ((w : Answer) → stepReply first ≡ refused w → ⊥) → Answers (WalkStart g) (tables k f e p n a i b sp) s (stepReply first) → Found
+    pub found : ((w : Answer) → stepReply first ≡ refused w → ⊥) → Answers buckets (Ask (WalkStart g)) (tables k f e p n a i b sp) s (stepReply first) → Found
     unfolding calls asks
     found u (over, reads, d) = absurd (u Capacity (d .answer))
     found u (short, reads, d) = absurd (u Short (d .answer))
@@ -122,7 +122,7 @@ module _ (k f e p n a i b sp : List ℕ) (s : State) where
           }
 
       pub printed : (out : List ℕ) (at : ℕ) (b₁ : List ℕ) (j₁ : ℕ) (b₂ : List ℕ) (j₂ : ℕ) (out' : List ℕ) (r : ℕ) → Spells out at (decimal (numberOf Done)) DIGITS b₁ j₁ →
-          Lists k f e n first b₁ j₁ b₂ j₂ → Writes b₂ j₂ (FEED ∷ []) out' r → Prints g (tables k f e p n a i b sp) s out at out' r
+          Lists k f e n first b₁ j₁ b₂ j₂ → Writes b₂ j₂ (FEED ∷ []) out' r → WalkPrints g (tables k f e p n a i b sp) s out at out' r
       printed out at b₁ j₁ b₂ j₂ out' r zero list feed =
           let xs = itemsText (listOf g (w .held .levels)) in
           let rest = spells-then b₁ j₁ xs b₂ j₂ (FEED ∷ []) out' r (LIMIT * ITEM) 1 (listed b₁ j₁ b₂ j₂ list) (spelled b₂ j₂ (FEED ∷ []) out' r 1 (omega arith) feed) in

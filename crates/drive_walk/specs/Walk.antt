@@ -12,13 +12,13 @@ use Rattle.ledger.specs.Buckets.{done, refused}
 use Rattle.ledger.specs.Calls.{asks, WalkStep}
 use Rattle.ledger.specs.Walk as ledger
 use Rattle.ledger.specs.Walk.{listOf, here}
-use Rattle.frequency_tables.specs.declared.State.{State}
-use Rattle.frequency_tables.specs.Tables.{Tables}
-use Rattle.frequency_tables.specs.Lent.{buckets}
-use Rattle.frequency_tables.specs.Promise.{Reading, over, short, corrupt, ledger, Reads}
-use Rattle.frequency_walk.specs.declared.Step.{Step}
-use Rattle.frequency_walk.specs.Replies.{stepReply}
-use Rattle.frequency_walk.specs.Walks.{OfStep}
+use Rattle.promise.specs.Promise.{Reading, over, short, corrupt, ledger, Reads}
+use Rattle.buckets_tables.specs.declared.State.{State}
+use Rattle.buckets_tables.specs.Tables.{Tables}
+use Rattle.buckets_tables.specs.Lent.{buckets}
+use Rattle.answers.specs.declared.Step.{Step}
+use Rattle.answers.specs.Replies.{stepReply}
+use Rattle.buckets_walk.specs.Walks.{OfStep}
 use Rattle.trace.specs.Lines.{DIGITS, FEED, decimal, spaced}
 use Rattle.trace.specs.Written.{Writes, Spells}
 use Rattle.drive_lines.specs.Lines.{replyText}
@@ -56,16 +56,16 @@ WALK = DIGITS + (LIMIT * ITEM + 1)
 -- Promises
 
 -- over these tables a walk that stands at st shows exactly these items, whatever its steps answer
-abbrev pub Shows : (k f e n : List ℕ) → Step → List Item → Type 0
-Shows k f e n st [] = stepReply st ≡ done []
-Shows k f e n st (x ∷ xs) =
-    (stepReply st ≡ ledger.stepReply (here x)) × ((st' : Step) → OfStep k f e n (asks (WalkStep (x .slot))) (stepReply st') → Shows k f e n st' xs)
+abbrev pub StepsShow : (k f e n : List ℕ) → Step → List Item → Type 0
+StepsShow k f e n st [] = stepReply st ≡ done []
+StepsShow k f e n st (x ∷ xs) =
+    (stepReply st ≡ ledger.stepReply (here x)) × ((st' : Step) → OfStep k f e n (asks (WalkStep (x .slot))) (stepReply st') → StepsShow k f e n st' xs)
 
 -- what such a walk shows is written, where it is no longer than the tables
 pub record Lists (k f e n : List ℕ) (st : Step) (out : List ℕ) (at : ℕ) (out' : List ℕ) (r : ℕ) : Type 0 where
   pub room : r ≤ at + length k * ITEM
-  pub writes : (xs : List Item) → Shows k f e n st xs → length xs ≤ length k → Writes out at (itemsText xs) out' r
+  pub writes : (xs : List Item) → StepsShow k f e n st xs → length xs ≤ length k → Writes out at (itemsText xs) out' r
 
 -- the line of what is read from the tables
-abbrev pub Prints : (frequency : ℕ) → Tables → State → (out : List ℕ) (at : ℕ) (out' : List ℕ) (r : ℕ) → Type 0
-Prints g t s out at out' r = (v : Reading buckets) × Reads buckets t s v × Spells out at (walkText g v) WALK out' r
+abbrev pub WalkPrints : (frequency : ℕ) → Tables → State → (out : List ℕ) (at : ℕ) (out' : List ℕ) (r : ℕ) → Type 0
+WalkPrints g t s out at out' r = (v : Reading buckets) × Reads buckets t s v × Spells out at (walkText g v) WALK out' r

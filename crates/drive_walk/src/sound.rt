@@ -2,15 +2,15 @@
 // keys, freqs, epochs, prevs, nexts, arena, index, buckets and spares.
 ghost use Prim.Native.Nat.{_+_, _*_, _≤_};
 ghost use lib.ListN.{length};
-ghost use Rattle.frequency_tables.specs.Tables.{tables};
-ghost use Rattle.frequency_walk.specs.Walks.{Walkable};
+ghost use Rattle.buckets_tables.specs.Slices.{before};
+ghost use Rattle.buckets_walk.specs.Walks.{Walkable};
 ghost use Rattle.trace.specs.Lines.{DIGITS};
 ghost use Rattle.trace.specs.Written.{Spells};
-ghost use Rattle.drive_walk.specs.Walk.{behind, itemText, ITEM, WALK, Lists, Prints};
+ghost use Rattle.drive_walk.specs.Walk.{behind, itemText, ITEM, WALK, Lists, WalkPrints};
+use answers::Step;
+use buckets_tables::State;
+use buckets_walk::sound::walk_step;
 use drive_lines::Told;
-use frequency_tables::State;
-use frequency_walk::Step;
-use frequency_walk::sound::walk_step;
 use numbers::Frequency;
 use numbers::Key;
 use numbers::Slot;
@@ -48,7 +48,9 @@ fn items(
     at: usize,
 ) -> usize
     requires { ⌜ Walkable (now k) (now f) (now e) (now n) × (at + length (now k) * ITEM ≤ length (now out)) ⌝ }
-    ensures { λ r. ⌜ Lists (now (k .entry)) (now (f .entry)) (now (e .entry)) (now (n .entry)) first (now (out .entry)) at (now (out .exit)) r ⌝ }
+    ensures { λ r. ⌜ Lists
+        (now (k .entry)) (now (f .entry)) (now (e .entry)) (now (n .entry)) first (now (out .entry)) at
+        (now (out .exit)) r ⌝ }
 {
     let mut step = first;
     let mut end = at;
@@ -84,10 +86,10 @@ pub fn walk(
     at: usize,
 ) -> usize
     requires { ⌜ at + WALK ≤ length (now out) ⌝ }
-    ensures { λ r. ⌜ Prints frequency (tables (now (k .entry)) (now (f .entry)) (now (e .entry)) (now (p .entry)) (now (n .entry)) (now (ar .entry)) (now (ix .entry)) (now (bk .entry)) (now (sp .entry))) state (now (out .entry)) at (now (out .exit)) r ⌝ }
+    ensures { λ r. ⌜ WalkPrints frequency (before k f e p n ar ix bk sp) state (now (out .entry)) at (now (out .exit)) r ⌝ }
 {
     let of = Frequency(frequency);
-    let first = frequency_queries::walk::start(k, f, e, p, n, ar, ix, bk, sp, state, of);
+    let first = frequency_buckets_queries::walk::start(k, f, e, p, n, ar, ix, bk, sp, state, of);
     if let Step::Refused(why) = first {
         return drive_lines::sound::write(out, at, Told::Alone(why));
     }

@@ -4,11 +4,12 @@ use Prim.Native.Nat.{ℕ}
 use Rattle.numbers.specs.Frequency.{capOf}
 use Rattle.ledger.specs.Buckets.{Reply, touchUpTo, touchCapped}
 use Rattle.ledger.specs.Calls.{calls, TouchCapped}
-use Rattle.frequency_tables.specs.declared.State.{State}
-use Rattle.frequency_tables.specs.Tables.{Tables}
-use Rattle.frequency_tables.specs.Calls.{Does}
+use Rattle.promise.specs.Promise.{Does}
+use Rattle.buckets_tables.specs.declared.State.{State}
+use Rattle.buckets_tables.specs.Tables.{Tables}
+use Rattle.buckets_tables.specs.Lent.{buckets}
 
 pub capped : (cap m k : ℕ) (t : Tables) (s : State) (r : Reply) (t' : Tables) (s' : State) → m ≡ capOf cap →
-    Does (touchUpTo m k) t s r t' s' → Does (calls (TouchCapped cap k)) t s r t' s'
+    Does buckets (touchUpTo m k) t s r t' s' → Does buckets (calls (TouchCapped cap k)) t s r t' s'
 unfolding calls touchCapped
-capped cap m k t s r t' s' e d = subst (λ (n : ℕ). Does (touchUpTo n k) t s r t' s') e d
+capped cap m k t s r t' s' e d = subst (λ (n : ℕ). Does buckets (touchUpTo n k) t s r t' s') e d

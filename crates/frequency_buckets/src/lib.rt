@@ -1,16 +1,16 @@
 // The calls of `FrequencyBuckets` that change one key, on any lent tables. Each checks first; where the tables hold a ledger it does what
 // the ledger's call does, else it says why not and leaves everything.
 ghost use Rattle.ledger.specs.Calls as ledger;
-ghost use Rattle.frequency_tables.specs.Tables.{tables};
-ghost use Rattle.frequency_tables.specs.Lent.{Makes};
-ghost use Rattle.frequency_reads.specs.Replies.{levelReply, leastReply};
-ghost use Rattle.frequency_calls.specs.Replies.{plainReply};
-use frequency_calls::Leveled;
-use frequency_calls::Popped;
-use frequency_calls::Stored;
-use frequency_reads::Least;
-use frequency_reads::Level;
-use frequency_tables::State;
+ghost use Rattle.promise.specs.Promise.{Makes};
+ghost use Rattle.buckets_tables.specs.Slices.{before, after};
+ghost use Rattle.buckets_tables.specs.Lent as kind;
+ghost use Rattle.answers.specs.Replies.{levelReply, leastReply, plainReply};
+use answers::Least;
+use answers::Level;
+use answers::Leveled;
+use answers::Popped;
+use answers::Stored;
+use buckets_tables::State;
 use numbers::Frequency;
 use numbers::Key;
 
@@ -28,9 +28,11 @@ pub fn insert(
     state: State,
     key: Key,
 ) -> Stored
-    ensures { λ r. ⌜ Makes (ledger.Insert (key .0)) (tables (now (keys .entry)) (now (freqs .entry)) (now (epochs .entry)) (now (prevs .entry)) (now (nexts .entry)) (now (arena .entry)) (now (index .entry)) (now (buckets .entry)) (now (spares .entry))) state (plainReply (r .answer)) (tables (now (keys .exit)) (now (freqs .exit)) (now (epochs .exit)) (now (prevs .exit)) (now (nexts .exit)) (now (arena .exit)) (now (index .exit)) (now (buckets .exit)) (now (spares .exit))) (r .state) ⌝ }
+    ensures { λ r. ⌜ Makes kind.buckets (ledger.Insert (key .0))
+        (before keys freqs epochs prevs nexts arena index buckets spares) state (plainReply (r .answer))
+        (after keys freqs epochs prevs nexts arena index buckets spares) (r .state) ⌝ }
 {
-    let why = frequency_check::refusal(
+    let why = buckets_check::refusal(
         &keys[..],
         &freqs[..],
         &epochs[..],
@@ -43,7 +45,7 @@ pub fn insert(
         state,
     );
     if why.is_done() {
-        return frequency_calls::sound::insert(
+        return buckets_calls::sound::insert(
             keys,
             freqs,
             epochs,
@@ -77,9 +79,11 @@ pub fn touch(
     state: State,
     key: Key,
 ) -> Leveled
-    ensures { λ r. ⌜ Makes (ledger.Touch (key .0)) (tables (now (keys .entry)) (now (freqs .entry)) (now (epochs .entry)) (now (prevs .entry)) (now (nexts .entry)) (now (arena .entry)) (now (index .entry)) (now (buckets .entry)) (now (spares .entry))) state (levelReply (r .answer)) (tables (now (keys .entry)) (now (freqs .exit)) (now (epochs .exit)) (now (prevs .exit)) (now (nexts .exit)) (now (arena .entry)) (now (index .entry)) (now (buckets .exit)) (now (spares .exit))) (r .state) ⌝ }
+    ensures { λ r. ⌜ Makes kind.buckets (ledger.Touch (key .0))
+        (before keys freqs epochs prevs nexts arena index buckets spares) state (levelReply (r .answer))
+        (after keys freqs epochs prevs nexts arena index buckets spares) (r .state) ⌝ }
 {
-    let why = frequency_check::refusal(
+    let why = buckets_check::refusal(
         keys,
         &freqs[..],
         &epochs[..],
@@ -92,7 +96,7 @@ pub fn touch(
         state,
     );
     if why.is_done() {
-        return frequency_calls::sound::touch(
+        return buckets_calls::sound::touch(
             keys,
             freqs,
             epochs,
@@ -127,9 +131,11 @@ pub fn touch_capped(
     key: Key,
     cap: Frequency,
 ) -> Leveled
-    ensures { λ r. ⌜ Makes (ledger.TouchCapped (cap .0) (key .0)) (tables (now (keys .entry)) (now (freqs .entry)) (now (epochs .entry)) (now (prevs .entry)) (now (nexts .entry)) (now (arena .entry)) (now (index .entry)) (now (buckets .entry)) (now (spares .entry))) state (levelReply (r .answer)) (tables (now (keys .entry)) (now (freqs .exit)) (now (epochs .exit)) (now (prevs .exit)) (now (nexts .exit)) (now (arena .entry)) (now (index .entry)) (now (buckets .exit)) (now (spares .exit))) (r .state) ⌝ }
+    ensures { λ r. ⌜ Makes kind.buckets (ledger.TouchCapped (cap .0) (key .0))
+        (before keys freqs epochs prevs nexts arena index buckets spares) state (levelReply (r .answer))
+        (after keys freqs epochs prevs nexts arena index buckets spares) (r .state) ⌝ }
 {
-    let why = frequency_check::refusal(
+    let why = buckets_check::refusal(
         keys,
         &freqs[..],
         &epochs[..],
@@ -142,7 +148,7 @@ pub fn touch_capped(
         state,
     );
     if why.is_done() {
-        return frequency_calls::sound::touch(
+        return buckets_calls::sound::touch(
             keys,
             freqs,
             epochs,
@@ -176,9 +182,11 @@ pub fn remove(
     state: State,
     key: Key,
 ) -> Leveled
-    ensures { λ r. ⌜ Makes (ledger.Remove (key .0)) (tables (now (keys .entry)) (now (freqs .entry)) (now (epochs .entry)) (now (prevs .entry)) (now (nexts .entry)) (now (arena .entry)) (now (index .entry)) (now (buckets .entry)) (now (spares .entry))) state (levelReply (r .answer)) (tables (now (keys .exit)) (now (freqs .exit)) (now (epochs .exit)) (now (prevs .exit)) (now (nexts .exit)) (now (arena .exit)) (now (index .exit)) (now (buckets .exit)) (now (spares .exit))) (r .state) ⌝ }
+    ensures { λ r. ⌜ Makes kind.buckets (ledger.Remove (key .0))
+        (before keys freqs epochs prevs nexts arena index buckets spares) state (levelReply (r .answer))
+        (after keys freqs epochs prevs nexts arena index buckets spares) (r .state) ⌝ }
 {
-    let why = frequency_check::refusal(
+    let why = buckets_check::refusal(
         &keys[..],
         &freqs[..],
         &epochs[..],
@@ -191,7 +199,7 @@ pub fn remove(
         state,
     );
     if why.is_done() {
-        return frequency_calls::sound::remove(
+        return buckets_calls::sound::remove(
             keys,
             freqs,
             epochs,
@@ -224,9 +232,11 @@ pub fn pop_min(
     spares: &mut [u64],
     state: State,
 ) -> Popped
-    ensures { λ r. ⌜ Makes ledger.PopMin (tables (now (keys .entry)) (now (freqs .entry)) (now (epochs .entry)) (now (prevs .entry)) (now (nexts .entry)) (now (arena .entry)) (now (index .entry)) (now (buckets .entry)) (now (spares .entry))) state (leastReply (r .answer)) (tables (now (keys .exit)) (now (freqs .exit)) (now (epochs .exit)) (now (prevs .exit)) (now (nexts .exit)) (now (arena .exit)) (now (index .exit)) (now (buckets .exit)) (now (spares .exit))) (r .state) ⌝ }
+    ensures { λ r. ⌜ Makes kind.buckets ledger.PopMin
+        (before keys freqs epochs prevs nexts arena index buckets spares) state (leastReply (r .answer))
+        (after keys freqs epochs prevs nexts arena index buckets spares) (r .state) ⌝ }
 {
-    let why = frequency_check::refusal(
+    let why = buckets_check::refusal(
         &keys[..],
         &freqs[..],
         &epochs[..],
@@ -239,7 +249,7 @@ pub fn pop_min(
         state,
     );
     if why.is_done() {
-        return frequency_calls::sound::pop_min(
+        return buckets_calls::sound::pop_min(
             keys,
             freqs,
             epochs,

@@ -13,10 +13,10 @@ use Rattle.numbers.specs.Marks.{LIMIT, NONE}
 use Rattle.lists.specs.Lists.{All, In, Without, final}
 use Rattle.lists.proofs.Tests.{by-eq}
 use Rattle.lists.proofs.Members.{all-map, all-in, all-mid, all-append, in-left, in-right, in-either, final-in, distinct-append}
+use Rattle.lists.proofs.Pigeonhole.{marked-all, marked-cover}
 use Rattle.links.specs.Chain.{Chain, cells}
 use Rattle.links.proofs.Chains.{Walking, walk-none, walk-more, walk-done, chain-length}
-use Rattle.lists.proofs.Pigeonhole.{marked-all, marked-cover}
-use Rattle.key_index.specs.Index.{slotClass, OUT, linkOf, Has, Ascending, Listed, Sound}
+use Rattle.key_index.specs.Index.{slotClass, OUT, linkOf, Has, Ascending, Listed, IndexSound}
 use Rattle.key_index.specs.Check.{Follows, marked, inIndex, Gathered}
 use Rattle.key_index.proofs.Class.{class-below}
 use Rattle.key_index.proofs.Ascending.{asc-mid, asc-put, asc-final}
@@ -134,7 +134,7 @@ module _ (index keys ms : List ℕ) (limit : length keys ≤ LIMIT) (sized : len
   marks : All (λ s. marked index keys s ≡ true) ms
   marks = all-map (Has index keys) (λ s. marked index keys s ≡ true) (λ s h. has-marked index keys s h) ms (g .inside)
 
-  pub counts : (n m : ℕ) → length ms ≡ n → m ≡ inIndex index keys → (eqb m n ≡ true) ↔ Sound index keys
+  pub counts : (n m : ℕ) → length ms ≡ n → m ≡ inIndex index keys → (eqb m n ≡ true) ↔ IndexSound index keys
   counts n m e f = (
     λ q. record {
       limit = limit;
@@ -147,7 +147,7 @@ module _ (index keys ms : List ℕ) (limit : length keys ≤ LIMIT) (sized : len
     λ sound. eq-eqb m n (f ∙ sym (marked-cover (marked index keys) (length keys) ms (g .distinct) below marks (λ s l k. met sound s (marked-has index keys s l k))) ∙ e),
   )
     where
-      met : Sound index keys → (s : ℕ) → Has index keys s → In s ms
+      met : IndexSound index keys → (s : ℕ) → Has index keys s → In s ms
       met sound s h =
           let r = sound .listed s h in
           let q = g .lists (slotClass keys s) (class-below (cells keys s) (length keys) (omega (arith, h .0))) in

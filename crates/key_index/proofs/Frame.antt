@@ -9,7 +9,7 @@ use Rattle.numbers.specs.declared.Slot.{Slot}
 use Rattle.lists.specs.Lists.{All}
 use Rattle.lists.proofs.Members.{all-map, all-both}
 use Rattle.links.specs.Chain.{Chain, cells}
-use Rattle.key_index.specs.Index.{slotClass, OUT, Has, Ascending, Listed, Sound, Finds}
+use Rattle.key_index.specs.Index.{slotClass, OUT, Has, Ascending, Listed, Finds, IndexSound}
 use Rattle.key_index.specs.declared.Found.{Found}
 use Rattle.key_index.specs.declared.Found.the-variants.{At, Nothing}
 use Rattle.key_index.proofs.Listing.{listed-has, has-one}
@@ -44,7 +44,7 @@ module _ (index keys keys' : List ℕ) (size : length keys' ≡ length keys) whe
   }
 
   -- with the same keys at the slots that are in, an index is as sound as it was
-  pub sound-frame : Sound index keys → ((s : ℕ) → Has index keys s → cells keys' s ≡ cells keys s) → Sound index keys'
+  pub sound-frame : IndexSound index keys → ((s : ℕ) → Has index keys s → cells keys' s ≡ cells keys s) → IndexSound index keys'
   sound-frame sound same = record {
     limit = omega (arith, sound .limit);
     sized = omega (arith, sound .sized);
@@ -69,7 +69,7 @@ module _ (index keys keys' : List ℕ) (size : length keys' ≡ length keys) whe
 -- ---- other places
 
 -- two indexes with the same slots in answer alike, wherever they keep them
-pub finds-alike : (i j keys : List ℕ) (key : ℕ) (r r' : Found) → Sound i keys → ((s : ℕ) → Has i keys s ↔ Has j keys s) → Finds i keys key r → Finds j keys key r' → r ≡ r'
+pub finds-alike : (i j keys : List ℕ) (key : ℕ) (r r' : Found) → IndexSound i keys → ((s : ℕ) → Has i keys s ↔ Has j keys s) → Finds i keys key r → Finds j keys key r' → r ≡ r'
 finds-alike i j keys key (At s) (At s') sound same f g =
     let e = has-one i keys sound (s .0) (s' .0) (f .0) (same (s' .0) .1 (g .0)) (f .1 ∙ sym (g .1)) in
     λ k. At (record { 0 = e k })
@@ -78,5 +78,5 @@ finds-alike i j keys key Nothing (At s') sound same f g = absurd (f (s' .0) (sam
 finds-alike i j keys key Nothing Nothing sound same f g = refl
 
 -- a slot that is in is found by its key
-pub finds-slot : (index keys : List ℕ) (s : Slot) (r : Found) → Sound index keys → Has index keys (s .0) → Finds index keys (cells keys (s .0)) r → r ≡ At s
+pub finds-slot : (index keys : List ℕ) (s : Slot) (r : Found) → IndexSound index keys → Has index keys (s .0) → Finds index keys (cells keys (s .0)) r → r ≡ At s
 finds-slot index keys s r sound h f = finds-alike index index keys (cells keys (s .0)) r (At s) sound (λ x. (λ q. q, λ q. q)) f (h, refl)

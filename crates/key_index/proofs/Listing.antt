@@ -10,7 +10,7 @@ use Rattle.lists.proofs.Members.{all-both}
 use Rattle.links.specs.Chain.{cells}
 use Rattle.links.proofs.Chains.{chain-one, chain-below, chain-unmarked, chain-distinct}
 use Rattle.key_index.specs.Class.{classOf}
-use Rattle.key_index.specs.Index.{slotClass, linkOf, Has, Listed, Sound}
+use Rattle.key_index.specs.Index.{slotClass, linkOf, Has, Listed, IndexSound}
 use Rattle.key_index.proofs.Ascending.{asc-one}
 
 module _ (index keys : List ℕ) (limit : length keys ≤ LIMIT) where
@@ -26,7 +26,7 @@ module _ (index keys : List ℕ) (limit : length keys ≤ LIMIT) where
       (chain-below (length keys) (linkOf index keys) (getD index c 0) ss (l .chain))
       (chain-unmarked (length keys) (linkOf index keys) limit (getD index c 0) ss (l .chain))
 
-module _ (index keys : List ℕ) (sound : Sound index keys) where
+module _ (index keys : List ℕ) (sound : IndexSound index keys) where
   -- a slot that is in the index is in the list of its key's class
   pub has-in : (s : ℕ) → Has index keys s → (c : ℕ) → slotClass keys s ≡ c → (ss : List ℕ) → Listed index keys c ss → In s ss
   has-in s h c e ss l =

@@ -3,7 +3,7 @@ use mathlib.Core.Path.{_≡_, refl, sym, ap, _∙_, subst}
 use mathlib.Core.Logic.{_≢_}
 use mathlib.Core.Bool.{cond}
 use mathlib.Core.List.{List, [], _∷_, _++_, append-assoc}
-use Prim.Native.Nat.{ℕ, _+_, _-_, _≤_, _<_}
+use Prim.Native.Nat.{ℕ, _+_, _≤_, _<_, _-_}
 use native.Mathlib.Omega.{arith}
 use lib.ListN.{length, getD}
 use lib.Dec.{ltb}
@@ -13,7 +13,7 @@ use Rattle.lists.proofs.Members.{all-map, all-in, all-mid, all-left, all-append
 use Rattle.links.specs.Chain.{Chain, cells}
 use Rattle.links.proofs.Chains.{chain-below}
 use Rattle.key_index.specs.Class.{classOf}
-use Rattle.key_index.specs.Index.{linkOf, Has, Absent, Ascending, Listed, Sound}
+use Rattle.key_index.specs.Index.{linkOf, Has, Absent, Ascending, Listed, IndexSound}
 use Rattle.key_index.specs.Places.{wordAfter, Places}
 use Rattle.key_index.proofs.Class.{class-below}
 use Rattle.key_index.proofs.Ascending.{asc-right, asc-least}
@@ -42,7 +42,7 @@ module _ (index keys : List ℕ) (key at : ℕ) (p : Placing index keys key at) 
   rest-ascending : Ascending (cells keys) (p .after)
   rest-ascending = asc-right (cells keys) (p .before) (p .after) (p .listed .ascending)
 
-  pub place-below : Sound index keys → 0 < length keys → at < length index
+  pub place-below : IndexSound index keys → 0 < length keys → at < length index
   place-below sound l =
       omega (
         arith,
@@ -53,7 +53,7 @@ module _ (index keys : List ℕ) (key at : ℕ) (p : Placing index keys key at) 
       )
 
   -- the slot at the word, if it is one, is the next of the list
-  module _ (sound : Sound index keys) (s : ℕ) (e : s ≡ getD index at 0) where
+  module _ (sound : IndexSound index keys) (s : ℕ) (e : s ≡ getD index at 0) where
     pub next : s < length keys → (ys : List ℕ) × (p .after ≡ s ∷ ys)
     next l = go (p .after) rest
       where
@@ -103,7 +103,7 @@ module _ (index keys : List ℕ) (key at : ℕ) (p : Placing index keys key at) 
         go [] q a = tt
         go (y ∷ ys) q a = asc-least (cells keys) key y ys (omega (arith, h (omega (arith, q .0, q .1)), ap (cells keys) (e ∙ q .0))) a
 
-pub place-start : (index keys : List ℕ) (key : ℕ) → Sound index keys → 0 < length keys → Placing index keys key (classOf key (length keys))
+pub place-start : (index keys : List ℕ) (key : ℕ) → IndexSound index keys → 0 < length keys → Placing index keys key (classOf key (length keys))
 place-start index keys key sound l =
     let r = sound .chains (classOf key (length keys)) (class-below key (length keys) l) in
     record { before = []; after = r .0; listed = r .1; smaller = tt; word = refl }
@@ -115,7 +115,7 @@ abbrev pub placed : (index keys : List ℕ) (key at : ℕ) → Places index keys
 placed index keys key at p =
     record { before = p .before; after = p .after; listed = p .listed; smaller = p .smaller; word = p .word }
 
-module _ (index keys : List ℕ) (key at : ℕ) (sound : Sound index keys) (p : Places index keys key at) where
+module _ (index keys : List ℕ) (key at : ℕ) (sound : IndexSound index keys) (p : Places index keys key at) where
   -- if the slots after the place have other keys, then no slot in the index has it
   pub place-absent : All (λ s. cells keys s ≢ key) (p .after) → Absent index keys key
   place-absent a s h e =

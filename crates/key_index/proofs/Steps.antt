@@ -12,7 +12,7 @@ use Rattle.lists.proofs.Tests.{by-eq}
 use Rattle.lists.proofs.Members.{all-any, all-map, all-both, all-in, all-left, all-right, all-mid, all-put, in-mid, in-put, in-others, in-either, in-without, distinct-apart}
 use Rattle.links.specs.Chain.{Chain, cells}
 use Rattle.links.proofs.Chains.{chain-same, chain-head}
-use Rattle.key_index.specs.Index.{slotClass, OUT, linkOf, Has, Absent, Listed, Sound, Inserts, Removes}
+use Rattle.key_index.specs.Index.{slotClass, OUT, linkOf, Has, Absent, Listed, Inserts, Removes, IndexSound}
 use Rattle.key_index.specs.Places.{Places}
 use Rattle.key_index.proofs.Class.{class-below}
 use Rattle.key_index.proofs.Ascending.{asc-right, asc-put, asc-drop, asc-first}
@@ -21,9 +21,9 @@ use Rattle.key_index.proofs.Listing.{listed-distinct, listed-has, has-i
 use Rattle.key_index.proofs.Placing.{placed, rest, place-below}
 
 -- An index whose class c has the list `new` in place of `old`, with the other lists as they were.
-replaced : (index index' keys : List ℕ) (c : ℕ) (old new : List ℕ) → Sound index keys → length index' ≡ length index → Listed index keys c old → Listed index' keys c new
+replaced : (index index' keys : List ℕ) (c : ℕ) (old new : List ℕ) → IndexSound index keys → length index' ≡ length index → Listed index keys c old → Listed index' keys c new
     → ((d : ℕ) → d < length keys → d ≢ c → (ss : List ℕ) → Listed index keys d ss → Listed index' keys d ss)
-    → ((x : ℕ) → Has index' keys x → In x new ⊎ (Has index keys x × (In x old → In x new))) → Sound index' keys
+    → ((x : ℕ) → Has index' keys x → In x new ⊎ (Has index keys x × (In x old → In x new))) → IndexSound index' keys
 replaced index index' keys c old new sound size l l' elsewhere origin = record {
   limit = sound .limit;
   sized = size ∙ sound .sized;
@@ -52,7 +52,7 @@ replaced index index' keys c old new sound size l l' elsewhere origin = record {
         (r .0, elsewhere (slotClass keys x) (class-below (cells keys x) (length keys) (omega (arith, h .0))) n (r .0) (r .1), r .2))
 
 -- Stores at the word w where the key of s belongs, and at the word of s.
-module _ (index keys : List ℕ) (s w : ℕ) (sound : Sound index keys) (p : Places index keys (cells keys s) w) (slot : s < length keys) where
+module _ (index keys : List ℕ) (s w : ℕ) (sound : IndexSound index keys) (p : Places index keys (cells keys s) w) (slot : s < length keys) where
   class : slotClass keys s < length keys
   class = class-below (cells keys s) (length keys) (omega arith)
 
@@ -259,7 +259,7 @@ module _ (index keys : List ℕ) (s w : ℕ) (sound : Sound index keys) (p : Pla
           classes = all-mid (λ x. slotClass keys x ≡ c) (p .before) s ys (old-listed .classes) .1;
         }
 
-    remove-sound : Sound removed-index keys
+    remove-sound : IndexSound removed-index keys
     remove-sound =
         replaced index removed-index keys (slotClass keys s) (p .before ++ s ∷ ys) (p .before ++ ys) sound (simp length-set) old-listed remove-listed
         (elsewhere removed-index remove-same)

@@ -6,9 +6,9 @@ use Prim.Native.Nat.{ℕ, _<_}
 use lib.ListN.{length}
 use lib.Dec.{eqb}
 use Rattle.lists.specs.Lists.{All, In, Distinct}
-use Rattle.links.specs.Chain.{cells}
 use Rattle.lists.specs.Marks.{count}
-use Rattle.key_index.specs.Index.{slotClass, OUT, linkOf, Has, Listed, Sound}
+use Rattle.links.specs.Chain.{cells}
+use Rattle.key_index.specs.Index.{slotClass, OUT, linkOf, Has, Listed, IndexSound}
 use Rattle.key_index.specs.declared.Met.{Met}
 use Rattle.key_index.specs.declared.Met.the-variants.{Slots, Fault}
 
@@ -41,4 +41,4 @@ pub record Gathered (index keys : List ℕ) (c : ℕ) (ms : List ℕ) : Type 0 w
 -- the lists of all classes have so many slots, or some class has no list
 abbrev pub CountsAll : (index keys : List ℕ) → Met → Type 0
 CountsAll index keys (Slots n) = (ms : List ℕ) × Gathered index keys (length keys) ms × (length ms ≡ n)
-CountsAll index keys Fault = Sound index keys → ⊥
+CountsAll index keys Fault = IndexSound index keys → ⊥

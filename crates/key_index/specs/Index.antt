@@ -44,7 +44,7 @@ pub record Listed (index keys : List ℕ) (c : ℕ) (ss : List ℕ) : Type 0 whe
   pub classes : All (λ s. slotClass keys s ≡ c) ss
 
 -- every class has a list, and every slot that is in the index is in the list of its class
-pub record Sound (index keys : List ℕ) : Type 0 where
+pub record IndexSound (index keys : List ℕ) : Type 0 where
   pub limit : length keys ≤ LIMIT
   pub sized : length index ≡ length keys + length keys
   pub chains : (c : ℕ) → c < length keys → (ss : List ℕ) × Listed index keys c ss
@@ -58,17 +58,17 @@ Finds index keys key Nothing = Absent index keys key
 -- `insert`: slot s is in too, if its key was not
 pub record Inserts (index keys : List ℕ) (s : ℕ) (index' : List ℕ) : Type 0 where
   pub size : length index' ≡ length index
-  pub sound : Absent index keys (cells keys s) → Sound index' keys
+  pub sound : Absent index keys (cells keys s) → IndexSound index' keys
   pub has : Absent index keys (cells keys s) → (x : ℕ) → Has index' keys x ↔ ((x ≡ s) ⊎ Has index keys x)
 
 -- `remove`: slot s is out, if it was in
 pub record Removes (index keys : List ℕ) (s : ℕ) (index' : List ℕ) : Type 0 where
   pub size : length index' ≡ length index
-  pub sound : Has index keys s → Sound index' keys
+  pub sound : Has index keys s → IndexSound index' keys
   pub has : Has index keys s → (x : ℕ) → Has index' keys x ↔ (Has index keys x × (x ≢ s))
 
 -- `clear`: an index of the right size has no slot in it, whatever the keys are
 pub record Clears (index index' : List ℕ) : Type 0 where
   pub size : length index' ≡ length index
-  pub sound : (keys : List ℕ) → length keys ≤ LIMIT → length index ≡ length keys + length keys → Sound index' keys
+  pub sound : (keys : List ℕ) → length keys ≤ LIMIT → length index ≡ length keys + length keys → IndexSound index' keys
   pub none : (keys : List ℕ) → length index ≡ length keys + length keys → (s : ℕ) → Has index' keys s → ⊥

@@ -8,7 +8,7 @@ ghost use Prim.Native.Nat.{ℕ, _+_, _≤_, _<_};
 ghost use lib.ListN.{length};
 ghost use Rattle.numbers.specs.Marks.{LIMIT};
 ghost use Rattle.key_index.specs.Class.{classOf};
-ghost use Rattle.key_index.specs.Index.{Has, Clears, Sound};
+ghost use Rattle.key_index.specs.Index.{Has, Clears, IndexSound};
 ghost use Rattle.key_index.specs.Cleared.{clearedCell};
 ghost use Rattle.key_index.specs.Check.{Follows, CountsClass, CountsAll, inIndex};
 use numbers::Key;
@@ -43,7 +43,8 @@ fn class_of(key: Key, capacity: u64) -> u64
 
 // Whether the slot is in the index.
 pub fn has(index: &[u64], slot: Slot) -> bool
-    ensures { λ r. ⌜ ((keys : List ℕ) → length (now (index .entry)) ≡ length keys + length keys → (r ≡ true) ↔ Has (now (index .entry)) keys (slot .0)) ⌝ }
+    ensures { λ r. ⌜ ((keys : List ℕ) → length
+        (now (index .entry)) ≡ length keys + length keys → (r ≡ true) ↔ Has (now (index .entry)) keys (slot .0)) ⌝ }
 {
     let capacity = index.len() / 2;
     let s = slot.0 as usize;
@@ -77,7 +78,7 @@ fn cleared_cell(half: usize, i: usize) -> u64
 
 // Whether index and keys are those of some slots with distinct keys. Walks each class once and counts, with no memory of its own.
 pub fn is_sound(index: &[u64], keys: &[u64]) -> bool
-    ensures { λ r. ⌜ (r ≡ true) ↔ Sound (now (index .entry)) (now (keys .entry)) ⌝ }
+    ensures { λ r. ⌜ (r ≡ true) ↔ IndexSound (now (index .entry)) (now (keys .entry)) ⌝ }
 {
     let capacity = keys.len() as u64;
     if LIMIT < capacity {

@@ -1,7 +1,7 @@
 // The calls on an index that is known to be sound: they check nothing, and walk at most one class.
 ghost use Prim.Native.Nat.{_<_};
 ghost use lib.ListN.{length};
-ghost use Rattle.key_index.specs.Index.{Sound, Finds, Inserts, Removes};
+ghost use Rattle.key_index.specs.Index.{Finds, Inserts, Removes, IndexSound};
 ghost use Rattle.key_index.specs.Places.{Places};
 use crate::Found;
 use crate::OUT;
@@ -11,7 +11,7 @@ use numbers::Slot;
 
 // The word of `index` after which the key belongs: its class, or the link of the last slot with a smaller key.
 fn place(index: &[u64], keys: &[u64], key: Key) -> usize
-    requires { ⌜ Sound (now index) (now keys) × (0 < length (now keys)) ⌝ }
+    requires { ⌜ IndexSound (now index) (now keys) × (0 < length (now keys)) ⌝ }
     ensures { λ r. ⌜ Places (now (index .entry)) (now (keys .entry)) (key .0) r ⌝ }
 {
     let capacity = keys.len();
@@ -26,7 +26,7 @@ fn place(index: &[u64], keys: &[u64], key: Key) -> usize
 
 // The slot in the index whose key this is.
 pub fn find(index: &[u64], keys: &[u64], key: Key) -> Found
-    requires { ⌜ Sound (now index) (now keys) ⌝ }
+    requires { ⌜ IndexSound (now index) (now keys) ⌝ }
     ensures { λ r. ⌜ Finds (now (index .entry)) (now (keys .entry)) (key .0) r ⌝ }
 {
     if keys.len() == 0 {
@@ -44,7 +44,7 @@ pub fn find(index: &[u64], keys: &[u64], key: Key) -> Found
 
 // Puts a slot in, under the key that `keys` has for it.
 pub fn insert(index: &mut [u64], keys: &[u64], slot: Slot)
-    requires { ⌜ Sound (now index) (now keys) × (slot .0 < length (now keys)) ⌝ }
+    requires { ⌜ IndexSound (now index) (now keys) × (slot .0 < length (now keys)) ⌝ }
     ensures { λ _. ⌜ Inserts (now (index .entry)) (now (keys .entry)) (slot .0) (now (index .exit)) ⌝ }
 {
     let s = slot.0 as usize;
@@ -57,7 +57,7 @@ pub fn insert(index: &mut [u64], keys: &[u64], slot: Slot)
 
 // Puts a slot out.
 pub fn remove(index: &mut [u64], keys: &[u64], slot: Slot)
-    requires { ⌜ Sound (now index) (now keys) × (slot .0 < length (now keys)) ⌝ }
+    requires { ⌜ IndexSound (now index) (now keys) × (slot .0 < length (now keys)) ⌝ }
     ensures { λ _. ⌜ Removes (now (index .entry)) (now (keys .entry)) (slot .0) (now (index .exit)) ⌝ }
 {
     let s = slot.0 as usize;

@@ -8,9 +8,9 @@ use Prim.Native.Nat.{ℕ, zero, suc, _+_}
 use native.Mathlib.Omega.{arith}
 use lib.ListN.{getD, set, replicate, length-set, length-replicate}
 use lib.Seq.{getD-set-same, getD-set-other}
+use Rattle.numbers.specs.Frequency.{CEILING, raised}
 use Rattle.lists.specs.Lists.{In, times}
 use Rattle.lists.proofs.Tests.{if-eq, one-other}
-use Rattle.numbers.specs.Frequency.{CEILING, raised}
 use Rattle.ledger.specs.Ledger.{Item, items, lookup, ifFound, lowest, keyed}
 use Rattle.ledger.specs.Cache.{Cache, newCache, CacheFormed, Lookup, miss, Least, valueOf, bind, unbind, moved, insertFull, insertNew, insertAt, cacheInsert, cacheGet, cachePeek, cacheRemove, cacheReset, cachePeekLfu, cacheEvict, cacheClear}
 use Rattle.ledger.specs.History.{CacheCall, Insert, Get, Peek, Remove, Reset, PeekLfu, Evict, Clear, Len, does, afterAll}

@@ -6,10 +6,10 @@ use mathlib.Core.List.{List, [], _∷_}
 use Prim.Native.Nat.{ℕ, _+_, _≤_}
 use native.Mathlib.Omega.{arith}
 use lib.Dec.{eqb}
+use Rattle.numbers.specs.Frequency.{CEILING, raised}
 use Rattle.lists.specs.Lists.{In, sum, one, times}
 use Rattle.lists.proofs.Tests.{if-eq, if-lt}
 use Rattle.lists.proofs.Members.{all-in}
-use Rattle.numbers.specs.Frequency.{CEILING, raised}
 use Rattle.ledger.specs.Ledger.{Entry, Level, Ledger, Item, new, item, tag, items, unlink, putAt, put, release, move, NonEmpty, Rising, keyed, WellFormed}
 use Rattle.ledger.specs.Buckets.{dated, redated, atEpoch}
 use Rattle.ledger.proofs.Items.{place, cut, items-unlink, items-link, sum-place, sum-cut-in, keyed-cut-same, keyed-cut-le}

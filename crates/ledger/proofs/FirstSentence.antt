@@ -11,7 +11,7 @@ use lib.ListN.{length}
 use Rattle.ledger.specs.Ledger.{Item, items, lookup, ifFound, lowest, keyed}
 use Rattle.ledger.specs.Cache.{Cache, newCache, Lookup, hit, miss, Least, least, nothing, valueOf, unbind, insertFull, insertNew, insertAt, cacheInsert, cacheGet, cacheRemove, cacheReset, cacheEvict}
 use Rattle.ledger.specs.History.{CacheCall, Insert, Get, Peek, Remove, Reset, PeekLfu, Evict, Clear, Len, Event, inserted, got, removed, reset, evicted, does, log, afterAll, Standing, unbound, guest, standing, Evicts}
-use Rattle.ledger.specs.Demand3.{CALLS, Bound, GoesBefore, LeastGoes, FirstSentence}
+use Rattle.ledger.specs.Demand3.{CALLS, GoesBefore, LeastGoes, FirstSentence, IsGuest}
 use Rattle.ledger.proofs.Items.{pick}
 use Rattle.ledger.proofs.Rising.{lowest-in}
 use Rattle.ledger.proofs.Told.{Book, last, Knows, Lower, lowest-first}
@@ -20,7 +20,7 @@ use Rattle.ledger.proofs.Parts.{part, part-length}
 
 -- The lowest goes first
 
-knows-bound : (now : ℕ) (x : Item) (s : Standing) → Knows now x s → Bound s
+knows-bound : (now : ℕ) (x : Item) (s : Standing) → Knows now x s → IsGuest s
 knows-bound now x unbound h = h
 knows-bound now x (guest n t) h = tt
 
@@ -33,12 +33,12 @@ goes-by now x y (guest m a) (guest n b) h i (inl l) = let p = h .0 in let q = i 
 goes-by now x y (guest m a) (guest n b) h i (inr l) = let p = h .0 in let q = i .0 in let r = l .0 in inr (omega arith, l .1)
 
 module _ (n now : ℕ) (b : Book) (c : Cache) (v : Inv n now b c) where
-  bound-keyed : (k : ℕ) → Bound (b k) → 1 ≤ keyed k (items (c .table .levels))
+  bound-keyed : (k : ℕ) → IsGuest (b k) → 1 ≤ keyed k (items (c .table .levels))
   bound-keyed k h = elim (ℕ-discrete (keyed k (items (c .table .levels))) 0)
-      [ yes q ↦ absurd (subst Bound (v .told .others k q) h) | no d ↦ omega arith ]
+      [ yes q ↦ absurd (subst IsGuest (v .told .others k q) h) | no d ↦ omega arith ]
 
   pub lowest-goes : (x : Item) → lowest (c .table .levels) ≡ some x →
-      Bound (b (x .key)) × ((k : ℕ) → Bound (b k) → (k ≡ x .key → ⊥) → GoesBefore (b (x .key)) (b k))
+      IsGuest (b (x .key)) × ((k : ℕ) → IsGuest (b k) → (k ≡ x .key → ⊥) → GoesBefore (b (x .key)) (b k))
   lowest-goes x e =
       let xs = items (c .table .levels) in
       let kx = knows n now b c v x (lowest-in (c .table .levels) x e) in
@@ -105,7 +105,7 @@ of-calls n before call l v h =
     let x = evicts-lowest call c v h in
     let w = lowest-goes n (0 + length before) b c i (x .0) (x .1) in
     record {
-      wasBound = subst (λ (m : ℕ). Bound (b m)) (sym (x .2)) (w .0);
+      wasBound = subst (λ (m : ℕ). IsGuest (b m)) (sym (x .2)) (w .0);
       first = λ k q d. subst (λ (m : ℕ). GoesBefore (b m) (b k)) (sym (x .2)) (w .1 k q (λ e. d (e ∙ sym (x .2))));
     }
 

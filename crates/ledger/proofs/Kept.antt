@@ -5,9 +5,9 @@ use mathlib.Core.Option.{Option, none, some}
 use mathlib.Core.List.{List, [], _∷_}
 use Prim.Native.Nat.{ℕ, _≤_}
 use native.Mathlib.Omega.{arith}
+use Rattle.numbers.specs.Frequency.{CEILING, raised, capOf}
 use Rattle.lists.specs.Lists.{In}
 use Rattle.lists.proofs.Tests.{if-eq}
-use Rattle.numbers.specs.Frequency.{CEILING, raised, capOf}
 use Rattle.ledger.specs.Ledger.{Level, Ledger, Item, new, items, lookup, ifFound, lowest, put, release, move, keyed, WellFormed}
 use Rattle.ledger.specs.Buckets.{Outcome, insertAs, insert, touchUpTo, touch, touchCapped, remove, popMin, peekMin, minFreq, frequency, entryEpoch, redated, setEntryEpoch, currentEpoch, atEpoch, setEpoch, advanceEpoch, len, isEmpty, contains, clear, batch, insertBatch, touchBatch, removeBatch}
 use Rattle.ledger.specs.Rebuild.{rebuild, byLowest, decayHalve, rebaseMinFreq}

@@ -3,14 +3,14 @@
 use mathlib.Core.Path.{_≡_, refl, sym, ap, subst}
 use mathlib.Core.Bool.{Bool, true, false, cond}
 use mathlib.Core.List.{List, [], _∷_}
-use Prim.Native.Nat.{ℕ, zero, suc, _+_, _-_, _≤_, _<_}
+use Prim.Native.Nat.{ℕ, zero, suc, _+_, _≤_, _<_, _-_}
 use native.Mathlib.Omega.{arith}
 use lib.Dec.{eqb, ltb}
 use lib.ListN.{length}
+use Rattle.numbers.specs.Frequency.{halved}
 use Rattle.lists.specs.Lists.{All, from, sum, one, times}
 use Rattle.lists.proofs.Tests.{if-eq, if-lt, if-less, if-not-less}
 use Rattle.lists.proofs.Members.{all-map, all-of, all-append, sum-append, length-sum}
-use Rattle.numbers.specs.Frequency.{halved}
 use Rattle.ledger.specs.Ledger.{Entry, Level, Ledger, Item, item, items, link, Rising, keyed, slotted, WellFormed}
 use Rattle.ledger.specs.Rebuild.{inSlot, bySlot, refill, LevelFits, rebuild, byLowest, decayHalve, rebased, rebaseMinFreq}
 use Rattle.ledger.proofs.Items.{items-link, sum-place}

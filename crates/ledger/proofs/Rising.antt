@@ -7,10 +7,10 @@ use mathlib.Core.List.{List, [], _∷_}
 use Prim.Native.Nat.{ℕ, _≤_, _<_}
 use native.Mathlib.Omega.{arith}
 use lib.ListN.{length}
+use Rattle.numbers.specs.Frequency.{CEILING}
 use Rattle.lists.specs.Lists.{All, In}
 use Rattle.lists.proofs.Tests.{if-eq, if-lt}
 use Rattle.lists.proofs.Members.{all-map, in-length}
-use Rattle.numbers.specs.Frequency.{CEILING}
 use Rattle.ledger.specs.Ledger.{Entry, Level, Item, item, tag, items, tail, lowest, level, link, without, unlink, NonEmpty, Rising}
 
 pub rising-down : (a b : ℕ) (ls : List Level) → a ≤ b → Rising b ls → Rising a ls

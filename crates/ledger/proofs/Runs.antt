@@ -8,10 +8,10 @@ use Prim.Native.Nat.{ℕ, suc, _+_, _≤_, _<_}
 use native.Mathlib.Omega.{arith}
 use lib.Dec.{eqb}
 use lib.ListN.{length, set}
+use Rattle.numbers.specs.Frequency.{CEILING, raised}
 use Rattle.lists.specs.Lists.{In}
 use Rattle.lists.proofs.Tests.{if-eq, if-same, if-other, if-less}
 use Rattle.lists.proofs.Members.{all-in}
-use Rattle.numbers.specs.Frequency.{CEILING, raised}
 use Rattle.ledger.specs.Ledger.{Entry, Item, item, items, lookup, ifFound, lowest, keyed}
 use Rattle.ledger.specs.Cache.{Cache, CacheFormed, newCache, Lookup, miss, Least, least, nothing, bind, unbind, moved, valueOf, insertFull, insertNew, insertAt, cacheInsert, cacheGet, cachePeek, cacheRemove, cacheReset, cachePeekLfu, cacheEvict, cacheClear}
 use Rattle.ledger.specs.History.{CacheCall, Insert, Get, Peek, Remove, Reset, PeekLfu, Evict, Clear, Len, Event, inserted, got, peeked, removed, reset, peekedLfu, evicted, does, log, afterAll, says, Standing, unbound, guest, struck, next, follow, standing}

@@ -15,7 +15,7 @@ use Rattle.lists.proofs.Tests.{if-same, if-other}
 use Rattle.ledger.specs.Ledger.{Item, items, lookup, lowest}
 use Rattle.ledger.specs.Cache.{Cache, newCache, Insertion, fresh, freshOut, old, full, insertFull, insertNew, insertAt, cacheInsert}
 use Rattle.ledger.specs.History.{CacheCall, Insert, Get, Peek, Remove, Reset, PeekLfu, Evict, Clear, Len, inserted, does, log, afterAll, says, Standing, unbound, guest, next, standing, Evicts, EvictedIn}
-use Rattle.ledger.specs.Demand3.{CALLS, Bound, HasHits, NoHits, GoesBefore, OnlyInserts, Spares, SecondSentence}
+use Rattle.ledger.specs.Demand3.{CALLS, HasHits, NoHits, GoesBefore, OnlyInserts, Spares, SecondSentence, IsGuest}
 use Rattle.ledger.proofs.Items.{found-none}
 use Rattle.ledger.proofs.Slots.{size-and-free}
 use Rattle.ledger.proofs.Told.{Book}
@@ -61,7 +61,7 @@ not-before (guest m a) unbound h q w = w
 not-before (guest m a) (guest n d) h q (inl l) = absurd (omega arith)
 not-before (guest m a) (guest n d) h q (inr l) = let e = l .0 in absurd (omega arith)
 
-no-hits-bound : (s : Standing) → NoHits s → Bound s
+no-hits-bound : (s : Standing) → NoHits s → IsGuest s
 no-hits-bound unbound q = q
 no-hits-bound (guest n t) q = tt
 

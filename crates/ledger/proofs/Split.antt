@@ -8,10 +8,10 @@ use mathlib.Core.List.{List, [], _∷_, _++_, append-assoc, append-nil}
 use Prim.Native.Nat.{ℕ, _+_, _≤_, _<_}
 use native.Mathlib.Omega.{arith}
 use lib.Dec.{eqb, ltb}
+use Rattle.numbers.specs.Frequency.{raised}
 use Rattle.lists.specs.Lists.{All, In, one}
 use Rattle.lists.proofs.Tests.{if-same, if-other, if-less, if-not-less, one-same}
 use Rattle.lists.proofs.Members.{all-map, all-append}
-use Rattle.numbers.specs.Frequency.{raised}
 use Rattle.ledger.specs.Ledger.{Entry, Level, Item, item, tag, items, level, link, without, unlink, NonEmpty, Rising, keyed}
 use Rattle.ledger.proofs.Items.{sum-tag, tag-append, in-tag-rest}
 

@@ -4,9 +4,9 @@ use mathlib.Core.Option.{Option, none, some}
 use mathlib.Core.List.{List, [], _∷_}
 use Prim.Native.Nat.{ℕ, _+_}
 use lib.ListN.{length, getD, set, replicate}
-use Rattle.lists.specs.Lists.{times}
 use Rattle.numbers.specs.Frequency.{CEILING, raised}
 use Rattle.numbers.specs.declared.Answer.the-variants.{Absent, Full, Empty}
+use Rattle.lists.specs.Lists.{times}
 use Rattle.ledger.specs.Ledger.{Ledger, Item, WellFormed, new, lookup, ifFound, size, lowest, put, release, move}
 use Rattle.ledger.specs.Buckets.{Reply, done, refused}
 

@@ -2,7 +2,7 @@
 use mathlib.Core.Path.{_≡_}
 use mathlib.Core.Logic.{_⊎_, _≢_}
 use mathlib.Core.List.{List, [], _∷_, _++_}
-use Prim.Native.Nat.{ℕ, _-_, _≤_, _<_, _^_}
+use Prim.Native.Nat.{ℕ, _≤_, _<_, _^_, _-_}
 use lib.ListN.{length}
 use Rattle.ledger.specs.Cache.{newCache}
 use Rattle.ledger.specs.History.{CacheCall, Event, inserted, got, peeked, removed, reset, peekedLfu, evicted, cleared, measured, log, Standing, unbound, guest, standing, guests, Evicts, EvictedIn}
@@ -11,9 +11,9 @@ use Rattle.ledger.specs.History.{CacheCall, Event, inserted, got, peeked
 abbrev pub CALLS : ℕ
 CALLS = 2 ^ 64 - 2
 
-abbrev pub Bound : Standing → Type 0
-Bound unbound = ⊥
-Bound (guest n last) = Unit {0}
+abbrev pub IsGuest : Standing → Type 0
+IsGuest unbound = ⊥
+IsGuest (guest n last) = Unit {0}
 
 abbrev pub HasHits : Standing → Type 0
 HasHits unbound = ⊥
@@ -31,8 +31,8 @@ GoesBefore (guest m a) (guest n b) = (m < n) ⊎ ((m ≡ n) × (a < b))
 
 -- the key v was bound, and goes before every other bound key
 pub record LeastGoes (before : List Event) (v : ℕ) : Type 0 where
-  pub wasBound : Bound (standing v before)
-  pub first : (k : ℕ) → Bound (standing k before) → k ≢ v → GoesBefore (standing v before) (standing k before)
+  pub wasBound : IsGuest (standing v before)
+  pub first : (k : ℕ) → IsGuest (standing k before) → k ≢ v → GoesBefore (standing v before) (standing k before)
 
 -- First sentence. From an empty cache of capacity 1 or more, over any sequence of at most 2^64 - 2 single cache calls, parted at
 -- any of them: whoever that call evicts has the fewest hits since it was last bound, and among those the oldest last hit or binding.

@@ -6,8 +6,8 @@ use mathlib.Core.List.{List, [], _∷_}
 use Prim.Native.Nat.{ℕ, _+_, _≤_, _<_}
 use lib.ListN.{length}
 use lib.Dec.{eqb, ltb}
-use Rattle.lists.specs.Lists.{from, sum, one, times}
 use Rattle.numbers.specs.Frequency.{FIRST, CEILING}
+use Rattle.lists.specs.Lists.{from, sum, one, times}
 
 -- a bound key, its slot, and its last epoch
 pub record Entry : Type 0 where

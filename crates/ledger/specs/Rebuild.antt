@@ -1,11 +1,11 @@
 -- `decay_halve` and `rebase_min_freq`, by the rebuild rule of document 01.
 use mathlib.Core.Bool.{cond}
 use mathlib.Core.List.{List, [], _∷_, _++_}
-use Prim.Native.Nat.{ℕ, _+_, _-_, _≤_}
+use Prim.Native.Nat.{ℕ, _+_, _≤_, _-_}
 use lib.ListN.{length}
 use lib.Dec.{eqb}
-use Rattle.lists.specs.Lists.{from}
 use Rattle.numbers.specs.Frequency.{FIRST, CEILING, halved}
+use Rattle.lists.specs.Lists.{from}
 use Rattle.ledger.specs.Ledger.{Level, Ledger, Item, items, link}
 use Rattle.ledger.specs.Buckets.{Outcome, done}
 

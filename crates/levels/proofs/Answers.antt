@@ -8,18 +8,17 @@ use native.Mathlib.Omega.{arith}
 use lib.ListN.{length, getD}
 use lib.Dec.{eqb}
 use borrow.Author.Tests.{eq-eqb, eqb-true}
-use Rattle.lists.proofs.Tests.{neither, said-no}
 use Rattle.numbers.specs.Marks.{NONE}
+use Rattle.lists.proofs.Tests.{neither, said-no, if-same, if-other}
 use Rattle.lists.specs.Lists.{All, final}
 use Rattle.lists.proofs.Members.{all-map}
-use Rattle.lists.proofs.Tests.{if-same, if-other}
-use Rattle.links.specs.Lent.{lent, Ring}
+use Rattle.links.specs.Linked.{Ring, linked}
 use Rattle.links.specs.declared.Ends.{Ends}
 use Rattle.links.proofs.Functions.{look-end}
 use Rattle.links.proofs.Lists.{ring-tail}
 use Rattle.bucket_table.specs.declared.Buckets.{Buckets}
-use Rattle.bucket_table.specs.Records.{row, nums, frequency, higher, head, tail, up, InTable, Spot, Holds}
-use Rattle.bucket_table.specs.Calls.{HasLevel, Places}
+use Rattle.bucket_table.specs.Records.{nums, frequency, higher, head, tail, up, InTable, Spot, RecordsHold}
+use Rattle.bucket_table.specs.Calls.{HasLevel, PlacesRecord}
 use Rattle.bucket_table.proofs.Rows.{rising-around, at-spot, above-spot, above-none, above-row, row-some}
 use Rattle.levels.specs.Levels.{Level, first, lowest, lowestFrequency, headOf}
 use Rattle.levels.specs.Held.{Tabs, tabs, Line, rows, view, Lines, Held}
@@ -43,12 +42,12 @@ module _ (t : Tabs) (s : Buckets) (us : List Line) (l : Line) (vs : List Line) (
   pub head-is : head (t .buckets) (l .row .num) ≡ first (l .slots)
   head-is = written t s us l vs h .head-is ∙ go (l .slots) (line-in t s us l vs h .ring)
     where
-      go : (xs : List ℕ) → Ring (lent (t .prevs) (t .nexts) (l .row .ends)) xs → l .row .ends .head ≡ first xs
+      go : (xs : List ℕ) → Ring (linked (t .prevs) (t .nexts) (l .row .ends)) xs → l .row .ends .head ≡ first xs
       go [] r = sym (look-end (λ k. getD (t .nexts) k 0) (l .row .ends .head)) ∙ r .links .0
       go (x ∷ xs) r = sym (look-end (λ k. getD (t .nexts) k 0) (l .row .ends .head)) ∙ r .links .0
 
   pub tail-is : tail (t .buckets) (l .row .num) ≡ final NONE (l .slots)
-  tail-is = written t s us l vs h .tail-is ∙ ring-tail (lent (t .prevs) (t .nexts) (l .row .ends)) (lines-room t s (us ++ l ∷ vs) h) (l .slots) (line-in t s us l vs h .ring)
+  tail-is = written t s us l vs h .tail-is ∙ ring-tail (linked (t .prevs) (t .nexts) (l .row .ends)) (lines-room t s (us ++ l ∷ vs) h) (l .slots) (line-in t s us l vs h .ring)
 
 -- ---- `lowest` and `lowest_frequency`
 
@@ -111,19 +110,19 @@ head-none : (g : ℕ) (vs : List Level) → All (λ l. g < l .freq) vs → headO
 head-none g [] h = refl
 head-none g (v ∷ vs) h = let l = h .0 in if-other (v .freq) g (first (v .slots)) (headOf g vs) (omega arith) ∙ head-none g vs (h .1)
 
-module _ (b : List ℕ) (s : Buckets) (g at n : ℕ) (pl : Places b s g at) (en : n ≡ up b s at) where
+module _ (b : List ℕ) (s : Buckets) (g at n : ℕ) (pl : PlacesRecord b s g at) (en : n ≡ up b s at) where
   pub head-spots : SoundWith b s → Spot b at × Spot b n
   head-spots k =
       let t = tabs (k .0) (k .1) (k .2) b (k .3) in
       let q = part t s g at pl (k .4 .0) (k .4 .1) .5 in
-      let h : Holds b (k .3) s (rows (q .lower) ++ rows (q .upper)) = rw (rows-append (q .lower) (q .upper)) at (q .rep .records) in
+      let h : RecordsHold b (k .3) s (rows (q .lower) ++ rows (q .upper)) = rw (rows-append (q .lower) (q .upper)) at (q .rep .records) in
       (rw (q .place) (at-spot b (k .3) s (rows (q .lower)) (rows (q .upper)) h), rw (en, q .place) (above-spot b (k .3) s (rows (q .lower)) (rows (q .upper)) h))
 
   -- the first line from g on, if there is one, is that of record n
   head-by : (t : Tabs) → t .buckets ≡ b → (v : ℕ) → (n ≡ NONE → v ≡ NONE)
       → ((us : List Line) (l : Line) (vs : List Line) → Lines t s (us ++ l ∷ vs) → n ≡ l .row .num → g ≤ l .row .freq → v ≡ headOf g (view (l ∷ vs))) → (ls : List Level) → Held t s ls → v ≡ headOf g ls
   head-by t eb v none some ls h =
-      let q = part t s g at (subst (λ (c : List ℕ). Places c s g at) (sym eb) pl) ls h in
+      let q = part t s g at (subst (λ (c : List ℕ). PlacesRecord c s g at) (sym eb) pl) ls h in
       let k = q .5 in
       let en' : n ≡ up (t .buckets) s (final NONE (nums (rows (k .lower)))) = en ∙ ap (λ (c : List ℕ). up c s at) (sym eb) ∙ ap (up (t .buckets) s) (k .place) in
       go (k .upper) (k .lower) (k .rep) (view-all (λ l. g ≤ l .freq) (k .upper) (q .1) (k .seen-upper) (q .4)) en' ∙ ap (headOf g) (k .seen-upper) ∙ sym (head-skip g (q .0) (q .1) (q .3)) ∙ ap (headOf g) (sym (q .2))

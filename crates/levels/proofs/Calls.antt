@@ -12,18 +12,18 @@ use Rattle.lists.specs.Lists.{All, final}
 use Rattle.lists.proofs.Tests.{by-lt, if-other, if-less, if-not-less}
 use Rattle.lists.proofs.Members.{all-map, all-append, all-right, final-in, final-append}
 use Rattle.lists.proofs.Maps.{map-parts}
-use Rattle.links.specs.Lent.{lent, Ring}
+use Rattle.links.specs.Linked.{Ring, linked}
 use Rattle.links.specs.declared.Ends.{Ends}
 use Rattle.links.proofs.Functions.{look-end}
 use Rattle.links.proofs.Lists.{ring-distinct, ring-tail}
 use Rattle.bucket_table.specs.declared.Buckets.{Buckets}
-use Rattle.bucket_table.specs.Records.{Row, row, nums, frequency, owner, up, Spot, Rising, Holds}
-use Rattle.bucket_table.specs.Calls.{Places}
+use Rattle.bucket_table.specs.Records.{Row, row, nums, frequency, owner, up, Spot, RecordsHold, RowsRise}
 use Rattle.bucket_table.proofs.Rows.{nums-append, rising-around, rising-above, next-row, row-in, row-some, row-written, above-spot}
+use Rattle.bucket_table.specs.Calls.{PlacesRecord}
 use Rattle.levels.specs.declared.Left.{Left}
 use Rattle.levels.specs.Levels.{Level, level, Nowhere, keep, join, touched}
 use Rattle.levels.specs.Held.{Tabs, tabs, Line, line, rows, view, Lines, Some, Held, Parted}
-use Rattle.levels.specs.Calls.{Fronts, InPlace, Lifts, Bound, Leaves, Ready, Enters, Touches, Binding, Binds, Unbinds}
+use Rattle.levels.specs.Calls.{Fronts, InPlace, Lifts, Ready, Binding, Unbinds, SlotBound, LevelTouches, LevelBinds, LevelLeaves, LevelEnters}
 use Rattle.levels.proofs.Lines.{rows-append, view-append, view-all, all-view, rows-all, all-rows, lines-room, records-mid, line-in, written, split-held, split-at}
 use Rattle.levels.proofs.One.{free-nowhere}
 use Rattle.levels.proofs.Leave.{bound-split, bound-fits, bound-records}
@@ -62,23 +62,23 @@ parted-held t s at us vs k = record {
 
 -- ---- a slot that is alone
 
-lone : (p n : List ℕ) (e : Ends) → length p ≤ NONE → (xs : List ℕ) (x : ℕ) (ys : List ℕ) → Ring (lent p n e) (xs ++ x ∷ ys) → e .head ≡ e .tail → (xs ≡ []) × (ys ≡ [])
+lone : (p n : List ℕ) (e : Ends) → length p ≤ NONE → (xs : List ℕ) (x : ℕ) (ys : List ℕ) → Ring (linked p n e) (xs ++ x ∷ ys) → e .head ≡ e .tail → (xs ≡ []) × (ys ≡ [])
 lone p n e room [] x [] h q = (refl, refl)
 lone p n e room [] x (y ∷ ys) h q =
-    let d = ring-distinct (lent p n e) room (x ∷ y ∷ ys) h .0 in
+    let d = ring-distinct (linked p n e) room (x ∷ y ∷ ys) h .0 in
     let hd : e .head ≡ x = sym (look-end (λ k. getD n k 0) (e .head)) ∙ h .links .0 in
-    let tl : e .tail ≡ final y ys = ring-tail (lent p n e) room (x ∷ y ∷ ys) h in
+    let tl : e .tail ≡ final y ys = ring-tail (linked p n e) room (x ∷ y ∷ ys) h in
     absurd (final-in (λ k. k ≢ x) y ys (d .0) (d .1) (sym tl ∙ sym q ∙ hd))
 lone p n e room (u ∷ us) x ys h q =
-    let d = all-right (λ k. k ≢ u) us (x ∷ ys) (ring-distinct (lent p n e) room (u ∷ (us ++ x ∷ ys)) h .0) in
+    let d = all-right (λ k. k ≢ u) us (x ∷ ys) (ring-distinct (linked p n e) room (u ∷ (us ++ x ∷ ys)) h .0) in
     let hd : e .head ≡ u = sym (look-end (λ k. getD n k 0) (e .head)) ∙ h .links .0 in
-    let tl : e .tail ≡ final x ys = ring-tail (lent p n e) room (u ∷ (us ++ x ∷ ys)) h ∙ final-append u us (x ∷ ys) in
+    let tl : e .tail ≡ final x ys = ring-tail (linked p n e) room (u ∷ (us ++ x ∷ ys)) h ∙ final-append u us (x ∷ ys) in
     absurd (final-in (λ k. k ≢ u) x ys (d .0) (d .1) (sym tl ∙ sym q ∙ hd))
 
 -- ---- `touch`
 
 -- a slot that has left is ready to enter
-pub left-ready : (t : Tabs) (s : Buckets) (x : ℕ) (t₁ : Tabs) (o : Left) → Leaves t s x t₁ o → Bound t s x → Ready t₁ (o .state) (o .at) x
+pub left-ready : (t : Tabs) (s : Buckets) (x : ℕ) (t₁ : Tabs) (o : Left) → LevelLeaves t s x t₁ o → SlotBound t s x → Ready t₁ (o .state) (o .at) x
 left-ready t s x t₁ o d b = record {
   us = b .us ++ keep (b .freq) (b .xs ++ b .ys) [];
   vs = b .vs;
@@ -94,7 +94,7 @@ module _ (t : Tabs) (s : Buckets) (x cap r : ℕ) (er : r ≡ owner (t .buckets)
       let k = split-at t s us f xs x ys vs r er h in ef ∙ written t s (k .lower) (line (row r f (k .ends)) (xs ++ x ∷ ys)) (k .upper) (k .rep) .freq-is
 
   -- at the cap or above
-  pub touch-front : cap ≤ f₀ .0 → (p' n' b' : List ℕ) → Fronts (t .prevs) (t .nexts) (t .buckets) r x p' n' b' → Touches t s x cap (tabs (t .freqs) p' n' b' (t .spares)) (record { frequency = f₀; state = s })
+  pub touch-front : cap ≤ f₀ .0 → (p' n' b' : List ℕ) → Fronts (t .prevs) (t .nexts) (t .buckets) r x p' n' b' → LevelTouches t s x cap (tabs (t .freqs) p' n' b' (t .spares)) (record { frequency = f₀; state = s })
   touch-front le p' n' b' d = record {
     answer = λ us f xs ys vs h. let e = is-level us f xs ys vs h in e ∙ sym (if-not-less f cap (f + 1) f (omega arith));
     holds = λ us f xs ys vs h.
@@ -121,11 +121,11 @@ module _ (t : Tabs) (s : Buckets) (x cap r : ℕ) (er : r ≡ owner (t .buckets)
         let b = all-view (λ l. f + 1 < l .freq) (k .upper) vs (k .seen-upper) (all-rows (λ w. f + 1 < w .freq) (k .upper) a) in
         (b, new vs b)
       where
-        go : (ls : List Line) (ws : List Row) (d : Ends) → Holds (t .buckets) (t .spares) s (ws ++ row r f d ∷ rows ls) → f₁ .0 ≡ f + 1 → All (λ w. f + 1 < w .freq) (rows ls)
+        go : (ls : List Line) (ws : List Row) (d : Ends) → RecordsHold (t .buckets) (t .spares) s (ws ++ row r f d ∷ rows ls) → f₁ .0 ≡ f + 1 → All (λ w. f + 1 < w .freq) (rows ls)
         go [] ws d hs e = tt
         go (l ∷ ls) ws d hs e =
             let up-is = next-row (t .buckets) (t .spares) s ws (row r f d) (l .row) (rows ls) hs in
-            let hs' : Holds (t .buckets) (t .spares) s ((ws ++ row r f d ∷ []) ++ l .row ∷ rows ls) = rw append-assoc hs in
+            let hs' : RecordsHold (t .buckets) (t .spares) s ((ws ++ row r f d ∷ []) ++ l .row ∷ rows ls) = rw append-assoc hs in
             let w = row-written (t .buckets) (t .spares) s (ws ++ row r f d ∷ []) (l .row) (rows ls) hs' .freq-is in
             let o = row-some (t .buckets) (t .spares) s (ws ++ row r f d ∷ []) (l .row) (rows ls) hs' in
             let ne : l .row .freq ≢ f + 1 = λ q. i .gap ((λ z. o (sym up-is ∙ z)), ap (frequency (t .buckets)) up-is ∙ w ∙ q ∙ sym e) in
@@ -140,7 +140,7 @@ module _ (t : Tabs) (s : Buckets) (x cap r : ℕ) (er : r ≡ owner (t .buckets)
 
     -- alone, with room above
     pub touch-lift : (f' b' : List ℕ) → InPlace (t .buckets) s r (f₁ .0) → Lifts (t .freqs) (t .buckets) r (f₁ .0) x f' b'
-        → Touches t s x cap (tabs f' (t .prevs) (t .nexts) b' (t .spares)) (record { frequency = f₁; state = s })
+        → LevelTouches t s x cap (tabs f' (t .prevs) (t .nexts) b' (t .spares)) (record { frequency = f₁; state = s })
     touch-lift f' b' i d = record {
       answer = answers;
       holds = λ us f xs ys vs h.
@@ -155,14 +155,14 @@ module _ (t : Tabs) (s : Buckets) (x cap r : ℕ) (er : r ≡ owner (t .buckets)
           rises us f xs ys vs h (tabs f' (t .prevs) (t .nexts) b' (t .spares)) s (rw (z .0, z .1, sym (g .1)) (rw e at h₂));
     }
 
-    module _ (t₁ : Tabs) (o : Left) (d : Leaves t s x t₁ o) where
+    module _ (t₁ : Tabs) (o : Left) (d : LevelLeaves t s x t₁ o) where
       -- out, and in again one level higher
-      pub touch-moves : (t' : Tabs) (s' : Buckets) → Enters t₁ (o .state) (o .at) (f₁ .0) x t' s' → Touches t s x cap t' (record { frequency = f₁; state = s' })
+      pub touch-moves : (t' : Tabs) (s' : Buckets) → LevelEnters t₁ (o .state) (o .at) (f₁ .0) x t' s' → LevelTouches t s x cap t' (record { frequency = f₁; state = s' })
       touch-moves t' s' en = record {
         answer = answers;
         holds = λ us f xs ys vs h.
             let e : f₁ .0 ≡ f + 1 = e₁ ∙ ap (λ (k : ℕ). k + 1) (is-level us f xs ys vs h) in
-            let en' = subst (λ (k : ℕ). Enters t₁ (o .state) (o .at) k x t' s') e en in
+            let en' = subst (λ (k : ℕ). LevelEnters t₁ (o .state) (o .at) k x t' s') e en in
             let ord = held-order t s us f (xs ++ x ∷ ys) vs h in
             let hu = all-append (λ l. l .freq < f + 1) us (keep f (xs ++ ys) []) (all-map (λ l. l .freq < f) (λ l. l .freq < f + 1) (λ l q. omega arith) us (ord .0)) (keep-all (λ l. l .freq < f + 1) f (xs ++ ys) (omega arith)) in
             let hv = all-map (λ l. f < l .freq) (λ l. f + 1 ≤ l .freq) (λ l q. omega arith) vs (ord .3) in
@@ -171,25 +171,25 @@ module _ (t : Tabs) (s : Buckets) (x cap r : ℕ) (er : r ≡ owner (t .buckets)
       }
 
 -- where `in_place` looks
-pub bound-spots : (t : Tabs) (s : Buckets) (x : ℕ) → Bound t s x → (r : ℕ) → r ≡ owner (t .buckets) x → Spot (t .buckets) r × Spot (t .buckets) (up (t .buckets) s r)
+pub bound-spots : (t : Tabs) (s : Buckets) (x : ℕ) → SlotBound t s x → (r : ℕ) → r ≡ owner (t .buckets) x → Spot (t .buckets) r × Spot (t .buckets) (up (t .buckets) s r)
 bound-spots t s x b r er =
     let k = bound-split t s x b r er in
     let h = bound-records t s x b r er in
     let w : Row = row r (b .freq) (k .ends) in
-    let h' : Holds (t .buckets) (t .spares) s ((rows (k .lower) ++ w ∷ []) ++ rows (k .upper)) = rw append-assoc h in
+    let h' : RecordsHold (t .buckets) (t .spares) s ((rows (k .lower) ++ w ∷ []) ++ rows (k .upper)) = rw append-assoc h in
     let e : r ≡ final NONE (nums (rows (k .lower) ++ w ∷ [])) = sym (ap (final NONE) (nums-append (rows (k .lower)) (w ∷ [])) ∙ final-append NONE (nums (rows (k .lower))) (r ∷ [])) in
     (inl (row-in (t .buckets) (t .spares) s (rows (k .lower)) w (rows (k .upper)) h), rw e (above-spot (t .buckets) (t .spares) s (rows (k .lower) ++ w ∷ []) (rows (k .upper)) h'))
 
 -- ---- `unbind`
 
-pub unbinds : (t : Tabs) (s : Buckets) (x : ℕ) (t' : Tabs) (o : Left) → Leaves t s x t' o → Unbinds t s x t' (o .state)
+pub unbinds : (t : Tabs) (s : Buckets) (x : ℕ) (t' : Tabs) (o : Left) → LevelLeaves t s x t' o → Unbinds t s x t' (o .state)
 unbinds t s x t' o d = record {
   holds = λ us f xs ys vs h. rw (keep-append us f (xs ++ ys) vs) at (parted-held t' (o .state) (o .at) (us ++ keep f (xs ++ ys) []) vs (d .holds us f xs ys vs h));
 }
 
 -- ---- the place of a frequency
 
-module _ (t : Tabs) (s : Buckets) (f at : ℕ) (pl : Places (t .buckets) s f at) where
+module _ (t : Tabs) (s : Buckets) (f at : ℕ) (pl : PlacesRecord (t .buckets) s f at) where
   parted-by : (us vs : List Level) → All (λ l. l .freq < f) us → All (λ l. f ≤ l .freq) vs → Held t s (us ++ vs) → Parted t s at us vs
   parted-by us vs hu hv h =
       let q = map-parts (λ (l : Line). level (l .row .freq) (l .slots)) (h .lines) us vs (h .seen) in
@@ -215,7 +215,7 @@ module _ (t : Tabs) (s : Buckets) (f at : ℕ) (pl : Places (t .buckets) s f at)
       let hv = all-view (λ l. f ≤ l .freq) (q .1) vs refl (q .4) in
       (us, vs, e, hu, hv, parted-by us vs hu hv (subst (Held t s) e h))
     where
-      cut : (low : ℕ) (ls : List Line) → Rising low (rows ls) → (us : List Line) × (vs : List Line) × (ls ≡ us ++ vs) × All (λ l. l .row .freq < f) us × All (λ l. f ≤ l .row .freq) vs
+      cut : (low : ℕ) (ls : List Line) → RowsRise low (rows ls) → (us : List Line) × (vs : List Line) × (ls ≡ us ++ vs) × All (λ l. l .row .freq < f) us × All (λ l. f ≤ l .row .freq) vs
       cut low [] r = ([], [], refl, tt, tt)
       cut low (l ∷ ls) r =
           by-lt (l .row .freq) f
@@ -228,7 +228,7 @@ module _ (t : Tabs) (s : Buckets) (f at : ℕ) (pl : Places (t .buckets) s f at)
         let q = part (pre .sound .0) (pre .sound .1) in
         record { us = q .0; vs = q .1; parted = q .5; slot = pre .slot; away = subst (Nowhere x) (q .2) (free-nowhere t s (pre .sound .0) (pre .sound .1) x (pre .next-own)) }
 
-    pub binds : f ≤ CEILING → (t' : Tabs) (s' : Buckets) → Enters t s at f x t' s' → Binds t s x f t' s'
+    pub binds : f ≤ CEILING → (t' : Tabs) (s' : Buckets) → LevelEnters t s at f x t' s' → LevelBinds t s x f t' s'
     binds c t' s' en = record {
       holds = λ us vs one hu hv h. en .holds us vs one c hu hv (free-nowhere t s (us ++ vs) h x (pre .next-own)) (parted-by us vs hu hv h);
     }

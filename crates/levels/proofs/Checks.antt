@@ -15,18 +15,17 @@ use Rattle.lists.proofs.Tests.{neither, by-eq}
 use Rattle.lists.proofs.Members.{all-append, all-mid, all-of, in-without, times-in, times-without}
 use Rattle.lists.proofs.Maps.{map-cons}
 use Rattle.lists.specs.Marks.{mark, count}
-use Rattle.links.specs.Lent.{lent}
-use Rattle.links.proofs.Lists.{ring-one}
 use Rattle.lists.proofs.Pigeonhole.{count-more, marked-all, marked-cover}
+use Rattle.links.proofs.Lists.{ring-one}
+use Rattle.links.specs.Linked.{linked}
 use Rattle.bucket_table.specs.declared.Buckets.{Buckets}
-use Rattle.bucket_table.specs.Records as records
-use Rattle.bucket_table.specs.Records.{WORDS, rowOf, up, Spot, Holds}
+use Rattle.bucket_table.specs.Records.{WORDS, rowOf, up, Spot, RecordsHold, RecordsSound}
 use Rattle.bucket_table.proofs.Rows.{nums-distinct}
 use Rattle.bucket_table.proofs.Places.{Standing, standing-none, standing-end, standing-next, standing-more, next-in}
 use Rattle.levels.specs.declared.Walked.{Walked}
 use Rattle.levels.specs.Levels.{members}
-use Rattle.levels.specs.Held.{Tabs, tabs, Line, line, rows, view, Missing, LineHeld, Even, Lines, Some, Sound}
-use Rattle.levels.specs.Check.{taken, CleanSlot, Clean, Sized, Listed, ListWalk, LevelsWalk}
+use Rattle.levels.specs.Held.{Tabs, tabs, Line, line, rows, view, Missing, LineHeld, Even, Lines, Some, LevelsSound}
+use Rattle.levels.specs.Check.{taken, CleanSlot, Clean, ListWalk, LevelsWalk, LevelsSized, ListedSo}
 use Rattle.levels.proofs.Lines.{rows-append, LineIn, lines-room, slots-distinct, slots-below, missing-members, members-missing, lines-distinct, lines-below}
 use Rattle.levels.proofs.One.{free-missing}
 
@@ -95,7 +94,7 @@ climb-start f p n b s bound = record {
   begins = λ sp ls h. (ls, refl);
 }
 
-module _ (f p n b : List ℕ) (s : Buckets) (bound number left : ℕ) (z : Sized f p n b) (w : Climb f p n b s bound number left) where
+module _ (f p n b : List ℕ) (s : Buckets) (bound number left : ℕ) (z : LevelsSized f p n b) (w : Climb f p n b s bound number left) where
   fits : length p ≤ NONE
   fits = let a = z .even .limit in let c = z .even .prevs-size in omega arith
 
@@ -110,11 +109,11 @@ module _ (f p n b : List ℕ) (s : Buckets) (bound number left : ℕ) (z : Sized
       let el : c .0 ≡ line (rowOf b number) (c .0 .slots) = λ i. line (c .3 i) (c .0 .slots) in
       (c .0 .slots, c .1, q .1 ∙ ap (λ (l : List Line). w .done ++ l) (c .2 ∙ ap (λ (l : Line). l ∷ c .1) el))
 
-  pub climb-spot : number ≢ NONE → (sp : List ℕ) → records.Sound b sp s → Spot b number
+  pub climb-spot : number ≢ NONE → (sp : List ℕ) → RecordsSound b sp s → Spot b number
   climb-spot ne sp k = let i = next-in b s (rows (w .done)) (w .at) number (w .standing) ne sp k in inl (i .0, i .1)
 
   -- its slots, if no line is empty
-  next-listed : number ≢ NONE → (sp : List ℕ) (ls : List Line) → Lines (tabs f p n b sp) s ls → All Some ls → (xs : List ℕ) × Listed f p n b number xs × (length (members (view (w .done))) + length xs ≤ length (members (view ls)))
+  next-listed : number ≢ NONE → (sp : List ℕ) (ls : List Line) → Lines (tabs f p n b sp) s ls → All Some ls → (xs : List ℕ) × ListedSo f p n b number xs × (length (members (view (w .done))) + length xs ≤ length (members (view ls)))
   next-listed ne sp ls h some =
       let q = next-line ne sp ls h in
       let l : Line = line (rowOf b number) (q .0) in
@@ -154,7 +153,7 @@ module _ (f p n b : List ℕ) (s : Buckets) (bound number left : ℕ) (z : Sized
         begins = λ sp ls h.
             let q = next-line ne sp ls h in
             let there : LineHeld f p n b (line (rowOf b number) (q .0)) = all-mid (LineHeld f p n b) (w .done) (line (rowOf b number) (q .0)) (q .1) (subst (All (LineHeld f p n b)) (q .2) (h .each)) .0 in
-            let es = ring-one (lent p n (rowOf b number .ends)) fits (q .0) (g .0) (there .ring) (g .1 .held .ring) in
+            let es = ring-one (linked p n (rowOf b number .ends)) fits (q .0) (g .0) (there .ring) (g .1 .held .ring) in
             (q .1, q .2 ∙ ap (λ (xs : List ℕ). w .done ++ line (rowOf b number) xs ∷ q .1) es ∙ sym (append-assoc (w .done) (l ∷ []) (q .1)));
       }
 
@@ -162,7 +161,7 @@ module _ (f p n b : List ℕ) (s : Buckets) (bound number left : ℕ) (z : Sized
   pub levels-done : number ≡ NONE → LevelsWalk f p n b s bound (eqb left 0)
   levels-done e = record { good = found; all = met }
     where
-      met : (sp : List ℕ) → bound ≡ count (taken n) (length n) → Sound (tabs f p n b sp) s → eqb left 0 ≡ true
+      met : (sp : List ℕ) → bound ≡ count (taken n) (length n) → LevelsSound (tabs f p n b sp) s → eqb left 0 ≡ true
       met sp eb k =
           let h = k .1 in
           let q = w .begins sp (h .lines) (h .rep) in
@@ -177,10 +176,10 @@ module _ (f p n b : List ℕ) (s : Buckets) (bound number left : ℕ) (z : Sized
           none [] q = append-nil (w .done)
           none (l ∷ rest) q = let z : _≡_ {A = ℕ} 0 1 = cc in absurd (omega arith)
 
-      found : (sp : List ℕ) → bound ≡ count (taken n) (length n) → Clean f p n (length f) → records.Sound b sp s → length sp ≡ length f → eqb left 0 ≡ true → Sound (tabs f p n b sp) s
+      found : (sp : List ℕ) → bound ≡ count (taken n) (length n) → Clean f p n (length f) → RecordsSound b sp s → length sp ≡ length f → eqb left 0 ≡ true → LevelsSound (tabs f p n b sp) s
       found sp eb cl so es q =
           let er = standing-end b s (rows (w .done)) (w .at) number (w .standing) e sp (so .0) (so .1) in
-          let hs : Holds b sp s (rows (w .done)) = subst (Holds b sp s) er (so .1) in
+          let hs : RecordsHold b sp s (rows (w .done)) = subst (RecordsHold b sp s) er (so .1) in
           let t = tabs f p n b sp in
           let a = w .spent in let c = eqb-true left 0 q in let z₁ = z .even .nexts-size in (
             view (w .done),
@@ -198,7 +197,7 @@ module _ (f p n b : List ℕ) (s : Buckets) (bound number left : ℕ) (z : Sized
             },
           )
         where
-          own : Holds b sp s (rows (w .done)) → (k : ℕ) → k < length f → Missing k (w .done) → length (members (view (w .done))) ≡ count (taken n) (length f) → getD n k 0 ≡ k
+          own : RecordsHold b sp s (rows (w .done)) → (k : ℕ) → k < length f → Missing k (w .done) → length (members (view (w .done))) ≡ count (taken n) (length f) → getD n k 0 ≡ k
           own hs k l m c =
               by-eq (getD n k 0) k (λ e. e)
               (λ d.
@@ -210,9 +209,9 @@ module _ (f p n b : List ℕ) (s : Buckets) (bound number left : ℕ) (z : Sized
 -- ---- `is_sound`
 
 -- the slots that are marked free have nothing else in their cells
-pub held-clean : (t : Tabs) (s : Buckets) → Sound t s → Clean (t .freqs) (t .prevs) (t .nexts) (length (t .freqs))
+pub held-clean : (t : Tabs) (s : Buckets) → LevelsSound t s → Clean (t .freqs) (t .prevs) (t .nexts) (length (t .freqs))
 held-clean t s k x l e =
     let h = k .1 in h .rep .free x l (free-missing t (h .lines) (lines-room t s (h .lines) (h .rep)) (h .rep .each) x e)
 
-pub sized : (f p n b sp : List ℕ) → Even f p n → length sp ≡ length f → length b ≡ length sp * WORDS → Sized f p n b
+pub sized : (f p n b sp : List ℕ) → Even f p n → length sp ≡ length f → length b ≡ length sp * WORDS → LevelsSized f p n b
 sized f p n b sp e es eb = record { even = e; size = omega arith }

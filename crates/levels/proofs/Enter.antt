@@ -15,13 +15,13 @@ use Rattle.links.specs.declared.Ends.{Ends}
 use Rattle.links.proofs.Functions.{look-end}
 use Rattle.bucket_table.specs.declared.Buckets.{Buckets}
 use Rattle.bucket_table.specs.declared.Made.{Made}
-use Rattle.bucket_table.specs.Records.{Row, row, empty, nums, lower, owner, Holds}
+use Rattle.bucket_table.specs.Records.{Row, row, empty, nums, owner, RecordsHold}
 use Rattle.bucket_table.specs.Calls.{Opening, Opened, Opens}
 use Rattle.bucket_table.proofs.Rows.{at-spot, above-spot, holds-limit, room}
 use Rattle.levels.specs.Levels.{Level, level, Nowhere, join}
 use Rattle.levels.specs.Held.{Tabs, tabs, Line, line, rows, view, Missing, LineHeld, Lines, Some, Parted}
-use Rattle.levels.specs.Calls.{Attaching, Attaches, Ready, Enters}
-use Rattle.levels.proofs.Lines.{rows-append, view-append, view-all, rows-all, LineIn, slot-in, number-in, lines-fewer}
+use Rattle.levels.specs.Calls.{Attaching, Attaches, Ready, LevelEnters}
+use Rattle.levels.proofs.Lines.{rows-append, view-append, view-all, rows-all, LineIn, slot-in, lines-fewer}
 use Rattle.levels.proofs.Steps.{at}
 
 -- lines that stay while only the records change
@@ -63,14 +63,14 @@ module _ (f p n b sp : List ℕ) (s : Buckets) (at₀ g x : ℕ) (b' sp' : List 
   e₁ = tabs f p n b' sp'
 
   module _ (us vs : List Line) (h : Lines e₀ s (us ++ vs)) (some : All Some (us ++ vs)) (away : Missing x (us ++ vs)) where
-    lines-of : (ls : List Line) → Holds b' sp' (m .state) (rows ls) → All (LineIn e₁) ls → ((k : ℕ) → Missing k ls → Missing k (us ++ vs)) → Lines e₁ (m .state) ls
+    lines-of : (ls : List Line) → RecordsHold b' sp' (m .state) (rows ls) → All (LineIn e₁) ls → ((k : ℕ) → Missing k ls → Missing k (us ++ vs)) → Lines e₁ (m .state) ls
     lines-of ls hs each sub = record { even = h .even; spares-size = op .spares-size ∙ h .spares-size; records = hs; each = each; free = λ k l w. h .free k l (sub k w) }
 
     still : All (LineIn e₁) (us ++ vs)
     still = same-lines f p n b b' (op .owners) (us ++ vs) (h .each)
 
     -- the level is there
-    ajar-there : (e : Ends) (rest : List Row) → rows vs ≡ row (m .number) g e ∷ rest → Holds b' sp' (m .state) (rows (us ++ vs)) → Ajar e₁ (m .state) us (m .number) g x vs
+    ajar-there : (e : Ends) (rest : List Row) → rows vs ≡ row (m .number) g e ∷ rest → RecordsHold b' sp' (m .state) (rows (us ++ vs)) → Ajar e₁ (m .state) us (m .number) g x vs
     ajar-there e rest q hs =
         let c = map-cons (λ (l : Line). l .row) vs (row (m .number) g e) rest q in
         let z : List ℕ = c .0 .slots in
@@ -87,7 +87,7 @@ module _ (f p n b sp : List ℕ) (s : Buckets) (at₀ g x : ℕ) (b' sp' : List 
         }
 
     -- it is new
-    ajar-new : All (λ w. g < w .freq) (rows vs) → Holds b' sp' (m .state) (rows us ++ row (m .number) g empty ∷ rows vs) → Ajar e₁ (m .state) us (m .number) g x vs
+    ajar-new : All (λ w. g < w .freq) (rows vs) → RecordsHold b' sp' (m .state) (rows us ++ row (m .number) g empty ∷ rows vs) → Ajar e₁ (m .state) us (m .number) g x vs
     ajar-new above hs = record {
       ends = empty;
       slots = [];
@@ -111,11 +111,11 @@ module _ (f p n b sp : List ℕ) (s : Buckets) (at₀ g x : ℕ) (b' sp' : List 
         let o = op .rows (rows us) (rows vs) ea (rw (rows-append us vs) at few) one c hu hv (rw (rows-append us vs) at (h .records)) in
         go (o .0) (o .1) (o .2)
       where
-        go : (ws : List Row) → Opened (m .number) g (rows vs) ws → Holds b' sp' (m .state) (rows us ++ ws) → Ajar e₁ (m .state) us (m .number) g x vs
-        go ws (inl q) hs = ajar-there (q .0 .0) (q .0 .1) (q .0 .2) (rw (rows-append us vs) (subst (λ (l : List Row). Holds b' sp' (m .state) (rows us ++ l)) (q .1) hs))
-        go ws (inr q) hs = ajar-new (q .0) (subst (λ (l : List Row). Holds b' sp' (m .state) (rows us ++ l)) (q .1) hs)
+        go : (ws : List Row) → Opened (m .number) g (rows vs) ws → RecordsHold b' sp' (m .state) (rows us ++ ws) → Ajar e₁ (m .state) us (m .number) g x vs
+        go ws (inl q) hs = ajar-there (q .0 .0) (q .0 .1) (q .0 .2) (rw (rows-append us vs) (subst (λ (l : List Row). RecordsHold b' sp' (m .state) (rows us ++ l)) (q .1) hs))
+        go ws (inr q) hs = ajar-new (q .0) (subst (λ (l : List Row). RecordsHold b' sp' (m .state) (rows us ++ l)) (q .1) hs)
 
-  pub enters : x < length f → (f' p' n' b₂ : List ℕ) → Attaches f p n b' (m .number) g x f' p' n' b₂ → Enters e₀ s at₀ g x (tabs f' p' n' b₂ sp') (m .state)
+  pub enters : x < length f → (f' p' n' b₂ : List ℕ) → Attaches f p n b' (m .number) g x f' p' n' b₂ → LevelEnters e₀ s at₀ g x (tabs f' p' n' b₂ sp') (m .state)
   enters lx f' p' n' b₂ at₁ = record {
     holds = λ us vs one c hu hv w k.
         let a = ajar (k .lower) (k .upper) (k .rep) (k .some) (parted-away e₀ s at₀ us vs k x w) (k .place) lx one c
@@ -139,7 +139,7 @@ module _ (f p n b sp : List ℕ) (s : Buckets) (at₀ x : ℕ) (pre : Ready (tab
   opening =
       let k = pre .parted in
       let h = k .rep .records in
-      let hs : Holds b sp s (rows (k .lower) ++ rows (k .upper)) = rw (rows-append (k .lower) (k .upper)) at h in
+      let hs : RecordsHold b sp s (rows (k .lower) ++ rows (k .upper)) = rw (rows-append (k .lower) (k .upper)) at h in
       record {
         making = record {
           size = h .size;

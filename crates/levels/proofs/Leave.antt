@@ -9,23 +9,23 @@ use Rattle.numbers.specs.Marks.{NONE}
 use Rattle.lists.specs.Lists.{All, Without, final}
 use Rattle.lists.proofs.Tests.{by-eq}
 use Rattle.lists.proofs.Members.{all-map, all-both, all-mid, all-put, all-left, all-right, all-append, final-append}
-use Rattle.links.specs.Lent.{lent, Ring, Kept, Fits, Unlinked}
+use Rattle.links.specs.Linked.{Ring, Kept, Fits, Unlinked, linked}
 use Rattle.links.specs.declared.Ends.{Ends}
 use Rattle.links.proofs.Functions.{look-end, upd-same, upd-other}
 use Rattle.links.proofs.Lists.{ring-once, ring-frame}
 use Rattle.bucket_table.specs.declared.Buckets.{Buckets}
-use Rattle.bucket_table.specs.Records.{Row, row, nums, head, tail, lower, owner, InTable, Holds}
+use Rattle.bucket_table.specs.Records.{Row, row, nums, head, tail, lower, owner, InTable, RecordsHold}
 use Rattle.bucket_table.specs.Calls.{SetEnds, Dropping, Drops}
 use Rattle.bucket_table.proofs.Rows.{nums-append, row-used, below-row, room}
 use Rattle.levels.specs.Levels.{Level, level, Nowhere, keep}
 use Rattle.levels.specs.Held.{Tabs, tabs, Line, line, rows, Missing, Free, Even, Lines, Some, Held, Parted}
-use Rattle.levels.specs.Calls.{Frees, Bound, Leaves}
+use Rattle.levels.specs.Calls.{Frees, SlotBound, LevelLeaves}
 use Rattle.levels.proofs.Lines.{rows-append, view-append, all-view, LineIn, lines-room, slot-in, records-mid, line-in, number-in, written, only-here, Split, member-own, split-at, Alike, Resized, even-still, others-still, free-still}
 use Rattle.levels.proofs.Steps.{at, ends-are}
 
 -- ---- what a bound slot's tables allow
 
-module _ (t : Tabs) (s : Buckets) (x : ℕ) (b : Bound t s x) where
+module _ (t : Tabs) (s : Buckets) (x : ℕ) (b : SlotBound t s x) where
   -- its line
   pub bound-split : (r : ℕ) → r ≡ owner (t .buckets) x → Split t s r (b .us) (b .freq) (b .xs ++ x ∷ b .ys) (b .vs)
   bound-split r e = split-at t s (b .us) (b .freq) (b .xs) x (b .ys) (b .vs) r e (b .held)
@@ -41,7 +41,7 @@ module _ (t : Tabs) (s : Buckets) (x : ℕ) (b : Bound t s x) where
   bound-slot-in = slot-in t s (b .held .lines) (b .held .rep) x (bound-fits .1)
 
   module _ (r : ℕ) (er : r ≡ owner (t .buckets) x) where
-    pub bound-records : Holds (t .buckets) (t .spares) s (rows (bound-split r er .lower) ++ row r (b .freq) (bound-split r er .ends) ∷ rows (bound-split r er .upper))
+    pub bound-records : RecordsHold (t .buckets) (t .spares) s (rows (bound-split r er .lower) ++ row r (b .freq) (bound-split r er .ends) ∷ rows (bound-split r er .upper))
     bound-records = let k = bound-split r er in records-mid t s (k .lower) (line (row r (b .freq) (k .ends)) (b .xs ++ x ∷ b .ys)) (k .upper) (k .rep)
 
     pub bound-record-in : InTable (t .buckets) r
@@ -56,21 +56,21 @@ module _ (t : Tabs) (s : Buckets) (x : ℕ) (b : Bound t s x) where
 -- ---- `leave`
 
 -- the head of an empty list, and of one that is not
-head-empty : (p n : List ℕ) (e : Ends) → Ring (lent p n e) [] → e .head ≡ NONE
+head-empty : (p n : List ℕ) (e : Ends) → Ring (linked p n e) [] → e .head ≡ NONE
 head-empty p n e h = sym (look-end (λ k. getD n k 0) (e .head)) ∙ h .links .0
 
-head-some : (p n : List ℕ) (e : Ends) (z : ℕ) (zs : List ℕ) → length p ≤ NONE → Ring (lent p n e) (z ∷ zs) → e .head ≢ NONE
+head-some : (p n : List ℕ) (e : Ends) (z : ℕ) (zs : List ℕ) → length p ≤ NONE → Ring (linked p n e) (z ∷ zs) → e .head ≢ NONE
 head-some p n e z zs l h q =
     let i = h .slots .0 in
     let w : z ≡ NONE = sym (h .links .0) ∙ look-end (λ k. getD n k 0) (e .head) ∙ q in
     omega arith
 
 -- a list with a head has slots, and one without has none
-has-some : (p n : List ℕ) (e : Ends) (zs : List ℕ) → Ring (lent p n e) zs → e .head ≢ NONE → 0 < length zs
+has-some : (p n : List ℕ) (e : Ends) (zs : List ℕ) → Ring (linked p n e) zs → e .head ≢ NONE → 0 < length zs
 has-some p n e [] h ne = absurd (ne (head-empty p n e h))
 has-some p n e (z ∷ zs) h ne = omega arith
 
-has-none : (p n : List ℕ) (e : Ends) (zs : List ℕ) → length p ≤ NONE → Ring (lent p n e) zs → e .head ≡ NONE → zs ≡ []
+has-none : (p n : List ℕ) (e : Ends) (zs : List ℕ) → length p ≤ NONE → Ring (linked p n e) zs → e .head ≡ NONE → zs ≡ []
 has-none p n e [] l h q = refl
 has-none p n e (z ∷ zs) l h q = absurd (head-some p n e z zs l h q)
 
@@ -84,7 +84,7 @@ keep-away x f [] w = tt
 keep-away x f (z ∷ zs) w = (w, tt)
 
 module _ (f p n b sp : List ℕ) (s : Buckets) (r x : ℕ) (er : r ≡ owner b x) (e₀ : Ends) (read : (e₀ .head ≡ head b r) × (e₀ .tail ≡ tail b r)) (p₁ n₁ : List ℕ) (d : Ends)
-    (un : Unlinked (lent p n e₀) x (lent p₁ n₁ d)) (f' p' n' : List ℕ) (fr : Frees f p₁ n₁ x f' p' n') where
+    (un : Unlinked (linked p n e₀) x (linked p₁ n₁ d)) (f' p' n' : List ℕ) (fr : Frees f p₁ n₁ x f' p' n') where
   abbrev t₀ : Tabs
   t₀ = tabs f p n b sp
 
@@ -95,18 +95,18 @@ module _ (f p n b sp : List ℕ) (s : Buckets) (r x : ℕ) (er : r ≡ owner b x
     abbrev was : Line
     was = line (row r g e) (xs ++ x ∷ ys)
 
-    unlink : Unlinked (lent p n e) x (lent p₁ n₁ d)
-    unlink = subst (λ (c : Ends). Unlinked (lent p n c) x (lent p₁ n₁ d)) (ends-are b (row r g e) e₀ (written t₀ s us was vs h) read) un
+    unlink : Unlinked (linked p n e) x (linked p₁ n₁ d)
+    unlink = subst (λ (c : Ends). Unlinked (linked p n c) x (linked p₁ n₁ d)) (ends-are b (row r g e) e₀ (written t₀ s us was vs h) read) un
 
     big : length p ≤ NONE
     big = lines-room t₀ s (us ++ was ∷ vs) h
 
-    ring₀ : Ring (lent p n e) (xs ++ x ∷ ys)
+    ring₀ : Ring (linked p n e) (xs ++ x ∷ ys)
     ring₀ = line-in t₀ s us was vs h .ring
 
     -- x is in no line any more
     pub left-line : Without x (xs ++ ys)
-    left-line = ring-once (lent p n e) big xs x ys ring₀
+    left-line = ring-once (linked p n e) big xs x ys ring₀
 
     pub left-others : Missing x (us ++ vs)
     left-others = only-here t₀ s us was vs h x (all-mid (λ y. (getD f y 0 ≡ g) × (owner b y ≡ r)) xs x ys (line-in t₀ s us was vs h .own) .0 .1)
@@ -148,14 +148,14 @@ module _ (f p n b sp : List ℕ) (s : Buckets) (r x : ℕ) (er : r ≡ owner b x
         (λ ne. free-still t₀ t₁ s us was vs h x left-others sizes alike k l m (all-put (λ y. y ≢ k) xs x ys (λ i. ne (sym i)) w) ne)
 
     -- the list without x, in the tables where x is marked free
-    pub left-ring : Ring (lent p₁ n₁ d) (xs ++ ys) × Ring (lent p' n' d) (xs ++ ys)
+    pub left-ring : Ring (linked p₁ n₁ d) (xs ++ ys) × Ring (linked p' n' d) (xs ++ ys)
     left-ring =
         let a = unlink .list xs ys ring₀ in
         let z = unlink .sized .prevs-size in
         let l = big in (
           a,
-          ring-frame (lent p₁ n₁ d) p' n' (xs ++ ys) (omega arith) (fr .sizes .1) a
-              (all-map (λ y. y ≢ x) (Kept (lent p₁ n₁ d) (lent p' n' d))
+          ring-frame (linked p₁ n₁ d) p' n' (xs ++ ys) (omega arith) (fr .sizes .1) a
+              (all-map (λ y. y ≢ x) (Kept (linked p₁ n₁ d) (linked p' n' d))
               (λ y ne. (at _ _ y (fr .prevs-are) ∙ upd-other (λ i. getD p₁ i 0) x x y ne, at _ _ y (fr .nexts-are) ∙ upd-other (λ i. getD n₁ i 0) x x y ne)) (xs ++ ys) left-line),
         )
 
@@ -196,7 +196,7 @@ module _ (f p n b sp : List ℕ) (s : Buckets) (r x : ℕ) (er : r ≡ owner b x
           left-free us g e xs ys vs h b' sp (se .owners) k l (q .1) (q .0);
     }
 
-    pub leaves-some : Leaves t₀ s x k₁ (record { at = r; state = s })
+    pub leaves-some : LevelLeaves t₀ s x k₁ (record { at = r; state = s })
     leaves-some = record { size = fr .sizes .0; holds = parts; gone = goes }
       where
         parts : (us : List Level) (g : ℕ) (xs ys : List ℕ) (vs : List Level) → Held t₀ s (us ++ level g (xs ++ x ∷ ys) ∷ vs) → Parted k₁ s r (us ++ keep g (xs ++ ys) []) vs
@@ -229,7 +229,7 @@ module _ (f p n b sp : List ℕ) (s : Buckets) (r x : ℕ) (er : r ≡ owner b x
       free = λ k l m. left-free us g e xs ys vs h b' sp' (dr .owners) k l m (subst (Without k) (sym z) tt);
     }
 
-    pub leaves-none : Leaves t₀ s x d₁ (record { at = at₀; state = s' })
+    pub leaves-none : LevelLeaves t₀ s x d₁ (record { at = at₀; state = s' })
     leaves-none = record { size = fr .sizes .0; holds = parts; gone = goes }
       where
         parts : (us : List Level) (g : ℕ) (xs ys : List ℕ) (vs : List Level) → Held t₀ s (us ++ level g (xs ++ x ∷ ys) ∷ vs) → Parted d₁ s' at₀ (us ++ keep g (xs ++ ys) []) vs

@@ -11,12 +11,12 @@ use Rattle.numbers.specs.Marks.{NONE}
 use Rattle.lists.specs.Lists.{All, Without, Distinct}
 use Rattle.lists.proofs.Members.{all-any, all-map, all-both, all-mid, all-put, all-append, all-left, all-right, distinct-append}
 use Rattle.lists.proofs.Maps.{images-all, all-images, length-images, map-cons, map-parts}
-use Rattle.links.specs.Lent.{lent, Kept}
+use Rattle.lists.proofs.Pigeonhole.{pigeon}
+use Rattle.links.specs.Linked.{Kept, linked}
 use Rattle.links.specs.declared.Ends.{Ends}
 use Rattle.links.proofs.Lists.{ring-distinct, ring-frame}
-use Rattle.lists.proofs.Pigeonhole.{pigeon}
 use Rattle.bucket_table.specs.declared.Buckets.{Buckets}
-use Rattle.bucket_table.specs.Records.{Row, row, nums, owner, InTable, Written, Holds}
+use Rattle.bucket_table.specs.Records.{Row, row, nums, owner, InTable, Written, RecordsHold}
 use Rattle.bucket_table.proofs.Rows.{rows-others, row-in, row-written, nums-distinct}
 use Rattle.levels.specs.Levels.{Level, level, members, Nowhere}
 use Rattle.levels.specs.Held.{Tabs, Line, line, rows, view, Missing, LineHeld, Free, Even, Lines, Some, Held}
@@ -57,7 +57,7 @@ module _ (t : Tabs) (s : Buckets) where
     slot-in x l = let a = h .records .size in let b = h .spares-size in omega arith
 
   module _ (us : List Line) (l : Line) (vs : List Line) (h : Lines t s (us ++ l ∷ vs)) where
-    pub records-mid : Holds (t .buckets) (t .spares) s (rows us ++ l .row ∷ rows vs)
+    pub records-mid : RecordsHold (t .buckets) (t .spares) s (rows us ++ l .row ∷ rows vs)
     records-mid = rw (rows-append us (l ∷ vs)) at (h .records)
 
     pub line-in : LineIn t l
@@ -156,8 +156,8 @@ even-still t t' z e =
 pub line-still : (t t' : Tabs) → length (t .prevs) ≤ NONE → length (t' .prevs) ≡ length (t .prevs) → (l : Line) → All (Alike t t') (l .slots) → LineIn t l → LineIn t' l
 line-still t t' room e l a h = record {
   ring =
-      ring-frame (lent (t .prevs) (t .nexts) (l .row .ends)) (t' .prevs) (t' .nexts) (l .slots) room e (h .ring)
-      (all-map (Alike t t') (Kept (lent (t .prevs) (t .nexts) (l .row .ends)) (lent (t' .prevs) (t' .nexts) (l .row .ends))) (λ k g. (g .prev-same, g .next-same)) (l .slots) a);
+      ring-frame (linked (t .prevs) (t .nexts) (l .row .ends)) (t' .prevs) (t' .nexts) (l .slots) room e (h .ring)
+      (all-map (Alike t t') (Kept (linked (t .prevs) (t .nexts) (l .row .ends)) (linked (t' .prevs) (t' .nexts) (l .row .ends))) (λ k g. (g .prev-same, g .next-same)) (l .slots) a);
   own =
       all-both (Alike t t') (λ x. (getD (t .freqs) x 0 ≡ l .row .freq) × (owner (t .buckets) x ≡ l .row .num)) (λ x. (getD (t' .freqs) x 0 ≡ l .row .freq) × (owner (t' .buckets) x ≡ l .row .num))
       (λ x g o. (g .freq-same ∙ o .0, g .own-same ∙ o .1)) (l .slots) a (h .own);
@@ -210,7 +210,7 @@ module _ (t : Tabs) where
   pub slots-distinct : length (t .prevs) ≤ NONE → (ls : List Line) → Distinct (nums (rows ls)) → All (LineIn t) ls → Distinct (members (view ls))
   slots-distinct room [] d h = tt
   slots-distinct room (l ∷ ls) d h =
-      distinct-append (l .slots) (members (view ls)) (ring-distinct (lent (t .prevs) (t .nexts) (l .row .ends)) room (l .slots) (h .0 .ring))
+      distinct-append (l .slots) (members (view ls)) (ring-distinct (linked (t .prevs) (t .nexts) (l .row .ends)) room (l .slots) (h .0 .ring))
       (slots-distinct room ls (d .1) (h .1)) (apart-rows l (h .0) ls (d .0) (h .1))
 
   pub slots-below : (ls : List Line) → All (LineIn t) ls → All (λ x. x < length (t .prevs)) (members (view ls))

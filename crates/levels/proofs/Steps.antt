@@ -11,16 +11,15 @@ use Rattle.lists.specs.Lists.{All, Without}
 use Rattle.lists.proofs.Tests.{by-eq}
 use Rattle.lists.proofs.Members.{all-map, all-both, all-mid, all-put}
 use Rattle.links.specs.Ring.{upd}
-use Rattle.links.specs.Lent.{lent, Fits, Pushed, Moved}
+use Rattle.links.specs.Linked.{Fits, Pushed, Moved, linked}
 use Rattle.links.specs.declared.Ends.{Ends}
 use Rattle.links.proofs.Functions.{upd-same, upd-other, cells-upd}
 use Rattle.bucket_table.specs.declared.Buckets.{Buckets}
 use Rattle.bucket_table.specs.Records.{Row, row, head, tail, owner, Written}
-use Rattle.bucket_table.specs.Calls as records
-use Rattle.bucket_table.specs.Calls.{SetEnds, SetOwner, Raises}
+use Rattle.bucket_table.specs.Calls.{SetEnds, SetOwner, Raises, RecordsReset}
 use Rattle.levels.specs.Levels.{level}
 use Rattle.levels.specs.Held.{Tabs, tabs, Line, line, rows, Missing, Free, Even, Lines, Some}
-use Rattle.levels.specs.Calls.{Frees, Attaching, Attaches, Fronts, Lifts, Resets}
+use Rattle.levels.specs.Calls.{Frees, Attaching, Attaches, Fronts, Lifts, LevelsReset}
 use Rattle.levels.proofs.Lines.{rows-append, view-append, view-all, rows-all, LineIn, records-mid, line-in, written, only-here, split-at, Alike, Resized, even-still, others-still, free-still}
 
 -- a function at one place, by an equation of functions
@@ -46,7 +45,7 @@ freed f p n x h l =
 -- ---- `attach`
 
 module _ (f p n b : List ℕ) (r g x : ℕ) (pre : Attaching f p n b r x) (e₀ : Ends) (read : (e₀ .head ≡ head b r) × (e₀ .tail ≡ tail b r)) (p' n' : List ℕ) (d : Ends)
-    (pu : Pushed (lent p n e₀) x (lent p' n' d)) (b₁ b' : List ℕ) (se : SetEnds b r d b₁) (so : SetOwner b₁ x r b') where
+    (pu : Pushed (linked p n e₀) x (linked p' n' d)) (b₁ b' : List ℕ) (se : SetEnds b r d b₁) (so : SetOwner b₁ x r b') where
   abbrev f' : List ℕ
   f' = set f x g
 
@@ -67,8 +66,8 @@ module _ (f p n b : List ℕ) (r g x : ℕ) (pre : Attaching f p n b r x) (e₀ 
     apart : Without x zs × Missing x (us ++ vs)
     apart = all-mid (λ v. Without x (v .slots)) us old vs away
 
-    push : Pushed (lent p n e) x (lent p' n' d)
-    push = subst (λ (c : Ends). Pushed (lent p n c) x (lent p' n' d)) (ends-are b (row r g e) e₀ (written t₀ s us old vs h) read) pu
+    push : Pushed (linked p n e) x (linked p' n' d)
+    push = subst (λ (c : Ends). Pushed (linked p n c) x (linked p' n' d)) (ends-are b (row r g e) e₀ (written t₀ s us old vs h) read) pu
 
     sizes : Resized t₀ t₁
     sizes = record { freqs-size = length-set f x g; prevs-size = push .sized .prevs-size; nexts-size = push .sized .nexts-size }
@@ -106,7 +105,7 @@ module _ (f p n b : List ℕ) (r g x : ℕ) (pre : Attaching f p n b r x) (e₀ 
 -- ---- `front`
 
 module _ (p n b : List ℕ) (r x : ℕ) (e₀ : Ends) (read : (e₀ .head ≡ head b r) × (e₀ .tail ≡ tail b r)) (p' n' : List ℕ) (d : Ends)
-    (mv : Moved (lent p n e₀) x (lent p' n' d)) (b' : List ℕ) (se : SetEnds b r d b') where
+    (mv : Moved (linked p n e₀) x (linked p' n' d)) (b' : List ℕ) (se : SetEnds b r d b') where
   module _ (f sp : List ℕ) (s : Buckets) (us : List Line) (g : ℕ) (e : Ends) (xs ys : List ℕ) (vs : List Line) (h : Lines (tabs f p n b sp) s (us ++ line (row r g e) (xs ++ x ∷ ys) ∷ vs)) where
     abbrev m₀ : Tabs
     m₀ = tabs f p n b sp
@@ -120,8 +119,8 @@ module _ (p n b : List ℕ) (r x : ℕ) (e₀ : Ends) (read : (e₀ .head ≡ he
     abbrev now : Line
     now = line (row r g d) (x ∷ (xs ++ ys))
 
-    move : Moved (lent p n e) x (lent p' n' d)
-    move = subst (λ (c : Ends). Moved (lent p n c) x (lent p' n' d)) (ends-are b (row r g e) e₀ (written m₀ s us was vs h) read) mv
+    move : Moved (linked p n e) x (linked p' n' d)
+    move = subst (λ (c : Ends). Moved (linked p n c) x (linked p' n' d)) (ends-are b (row r g e) e₀ (written m₀ s us was vs h) read) mv
 
     owns : ((getD f x 0 ≡ g) × (owner b x ≡ r)) × All (λ y. (getD f y 0 ≡ g) × (owner b y ≡ r)) (xs ++ ys)
     owns = all-mid (λ y. (getD f y 0 ≡ g) × (owner b y ≡ r)) xs x ys (line-in m₀ s us was vs h .own)
@@ -243,7 +242,7 @@ freed-more f p n i l ep en h k lk =
     })
 
 pub all-free : (f p n f' p' n' sp sp' : List ℕ) (s : Buckets) → Even f p n → length sp ≡ length f → length f' ≡ length f → length p' ≡ length p → length n' ≡ length n
-    → ((k : ℕ) → k < length f' → Free f' p' n' k) → records.Resets sp sp' s → Resets f f' p' n' sp' s
+    → ((k : ℕ) → k < length f' → Free f' p' n' k) → RecordsReset sp sp' s → LevelsReset f f' p' n' sp' s
 all-free f p n f' p' n' sp sp' s e es lf lp ln h r = record {
   holds = λ b z. record {
     lines = [];

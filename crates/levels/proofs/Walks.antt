@@ -4,7 +4,7 @@ use mathlib.Core.Path.{_≡_, refl, sym, ap, _∙_, subst}
 use mathlib.Core.Bool.{true, false}
 use mathlib.Core.Logic.{_≢_, _↔_}
 use mathlib.Core.List.{List, [], _∷_, _++_}
-use Prim.Native.Nat.{ℕ, _+_, _-_, _<_, _≤_}
+use Prim.Native.Nat.{ℕ, _+_, _<_, _≤_, _-_}
 use native.Mathlib.Omega.{arith}
 use lib.ListN.{length, getD, length-append}
 use lib.Dec.{eqb}
@@ -13,16 +13,16 @@ use Rattle.numbers.specs.Marks.{NONE}
 use Rattle.lists.specs.Lists.{All, final}
 use Rattle.lists.proofs.Tests.{neither}
 use Rattle.lists.proofs.Members.{all-map, all-both, all-mid, all-append, final-in}
-use Rattle.links.specs.Lent.{Lent, lent, next, prev}
+use Rattle.links.specs.Linked.{next, prev, Linked, linked}
 use Rattle.links.proofs.Functions.{look-end, look-at}
 use Rattle.links.proofs.Lists.{ring-clear}
 use Rattle.links.proofs.Walks.{Walk, walk-start, walk-on, walk-next, walk-end, walk-whole}
 use Rattle.bucket_table.specs.Records.{frequency, head, tail, owner, rowOf, InTable}
-use Rattle.levels.specs.Check.{Sized, SlotOk, Listed, ListWalk}
+use Rattle.levels.specs.Check.{SlotOk, ListWalk, LevelsSized, ListedSo}
 
 -- ---- one slot
 
-pub slot-fits : (f p n b : List ℕ) (x : ℕ) → Sized f p n b → x < length f → InTable b x
+pub slot-fits : (f p n b : List ℕ) (x : ℕ) → LevelsSized f p n b → x < length f → InTable b x
 slot-fits f p n b x z l = let e = z .size in omega arith
 
 pub slot-last : (f p b : List ℕ) (r g at x v : ℕ) → x < length f → getD p x 0 ≡ at → getD f x 0 ≡ g → v ≡ owner b x → (eqb v r ≡ true) ↔ SlotOk f p b r g at x
@@ -35,8 +35,8 @@ slot-last f p b r g at x v l e₁ e₂ ev = (
 
 module _ (f p n b : List ℕ) (r : ℕ) where
   -- the links of the record's list
-  abbrev Here : Lent
-  Here = lent p n (rowOf b r .ends)
+  abbrev Here : Linked
+  Here = linked p n (rowOf b r .ends)
 
   -- what is tested of a slot, but for its link
   abbrev Fine : ℕ → Type 0
@@ -56,16 +56,16 @@ module _ (f p n b : List ℕ) (r : ℕ) where
     spent = omega arith;
   }
 
-  module _ (z : Sized f p n b) (left at x m : ℕ) (w : Along left at x m) where
+  module _ (z : LevelsSized f p n b) (left at x m : ℕ) (w : Along left at x m) where
     room : length p ≤ NONE
     room = let a = z .even .limit in let c = z .even .prevs-size in omega arith
 
-    fine-of : (xs : List ℕ) → Listed f p n b r xs → All Fine xs
+    fine-of : (xs : List ℕ) → ListedSo f p n b r xs → All Fine xs
     fine-of xs h =
         all-both (λ y. y < length p) (λ y. (getD f y 0 ≡ frequency b r) × (owner b y ≡ r)) Fine (λ y l o. (l, o .0, o .1)) xs (h .held .ring .slots) (h .held .own)
 
     -- what comes next in a list that there may be
-    next-ok : x ≢ NONE → (xs : List ℕ) → Listed f p n b r xs → SlotOk f p b r (frequency b r) at x × (length (w .passed) + 1 ≤ length xs)
+    next-ok : x ≢ NONE → (xs : List ℕ) → ListedSo f p n b r xs → SlotOk f p b r (frequency b r) at x × (length (w .passed) + 1 ≤ length xs)
     next-ok ne xs h =
         let q = walk-next (next Here) (prev Here) (w .passed) at x (w .walk) ne xs (ring-clear Here room xs (h .held .ring)) (h .held .ring .links) in
         let o = all-mid Fine (w .passed) x (q .0) (subst (All Fine) (q .1) (fine-of xs h)) .0 in
@@ -74,7 +74,7 @@ module _ (f p n b : List ℕ) (r : ℕ) where
           omega (arith, length-append (w .passed) (x ∷ q .0)),
         )
 
-    refuse : ((xs : List ℕ) → Listed f p n b r xs → length xs ≤ left → ⊥) → ListWalk f p n b r left (record { ok = false; left = 0 })
+    refuse : ((xs : List ℕ) → ListedSo f p n b r xs → length xs ≤ left → ⊥) → ListWalk f p n b r left (record { ok = false; left = 0 })
     refuse g = record { good = λ q. absurd (neither false q refl); all = λ xs h l. absurd (g xs h l) }
 
     pub list-short : m ≡ 0 → x ≢ NONE → ListWalk f p n b r left (record { ok = false; left = 0 })
@@ -94,7 +94,7 @@ module _ (f p n b : List ℕ) (r : ℕ) where
           spent = omega (arith, length-append (w .passed) (x ∷ []));
         }
 
-    whole : x ≡ NONE → (xs : List ℕ) → Listed f p n b r xs → (xs ≡ w .passed) × (prev Here NONE ≡ at)
+    whole : x ≡ NONE → (xs : List ℕ) → ListedSo f p n b r xs → (xs ≡ w .passed) × (prev Here NONE ≡ at)
     whole e xs h = walk-whole (next Here) (prev Here) (w .passed) at x (w .walk) e xs (ring-clear Here room xs (h .held .ring)) (h .held .ring .links)
 
     pub list-none : x ≡ NONE → at ≡ NONE → ListWalk f p n b r left (record { ok = false; left = 0 })

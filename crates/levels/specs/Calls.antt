@@ -7,7 +7,7 @@ use Rattle.numbers.specs.Frequency.{CEILING, raised}
 use Rattle.lists.specs.Lists.{All}
 use Rattle.links.specs.Ring.{upd}
 use Rattle.links.specs.Chain.{cells}
-use Rattle.links.specs.Lent.{Fits}
+use Rattle.links.specs.Linked.{Fits}
 use Rattle.links.specs.declared.Ends.{Ends}
 use Rattle.bucket_table.specs.declared.Buckets.{Buckets}
 use Rattle.bucket_table.specs.Records.{WORDS, head, tail, owner, up, InTable, row}
@@ -15,7 +15,7 @@ use Rattle.bucket_table.specs.Calls.{HasLevel}
 use Rattle.levels.specs.declared.Touched.{Touched}
 use Rattle.levels.specs.declared.Left.{Left}
 use Rattle.levels.specs.Levels.{Level, level, Nowhere, keep, join, touched, lowest, lowestFrequency, headOf}
-use Rattle.levels.specs.Held.{Tabs, tabs, Line, line, Missing, Lines, Held, Sound, Parted}
+use Rattle.levels.specs.Held.{Tabs, tabs, Line, line, Missing, Lines, Held, Parted, LevelsSound}
 
 -- ---- parts of the calls
 
@@ -57,7 +57,7 @@ pub record Lifts (f b : List ℕ) (r h x : ℕ) (f' b' : List ℕ) : Type 0 wher
 -- ---- leave and enter
 
 -- x is a slot of some level
-pub record Bound (t : Tabs) (s : Buckets) (x : ℕ) : Type 0 where
+pub record SlotBound (t : Tabs) (s : Buckets) (x : ℕ) : Type 0 where
   pub us : List Level
   pub freq : ℕ
   pub xs : List ℕ
@@ -67,10 +67,10 @@ pub record Bound (t : Tabs) (s : Buckets) (x : ℕ) : Type 0 where
 
 -- and r is its record
 pub record Leaving (t : Tabs) (s : Buckets) (r x : ℕ) : Type 0 where
-  pub bound : Bound t s x
+  pub bound : SlotBound t s x
   pub number : r ≡ owner (t .buckets) x
 
-pub record Leaves (t : Tabs) (s : Buckets) (x : ℕ) (t' : Tabs) (o : Left) : Type 0 where
+pub record LevelLeaves (t : Tabs) (s : Buckets) (x : ℕ) (t' : Tabs) (o : Left) : Type 0 where
   pub size : length (t' .freqs) ≡ length (t .freqs)
   pub holds : (us : List Level) (f : ℕ) (xs ys : List ℕ) (vs : List Level)
       → Held t s (us ++ level f (xs ++ x ∷ ys) ∷ vs) → Parted t' (o .state) (o .at) (us ++ keep f (xs ++ ys) []) vs
@@ -85,24 +85,24 @@ pub record Ready (t : Tabs) (s : Buckets) (at x : ℕ) : Type 0 where
   pub slot : x < length (t .freqs)
   pub away : Nowhere x (us ++ vs)
 
-pub record Enters (t : Tabs) (s : Buckets) (at f x : ℕ) (t' : Tabs) (s' : Buckets) : Type 0 where
+pub record LevelEnters (t : Tabs) (s : Buckets) (at f x : ℕ) (t' : Tabs) (s' : Buckets) : Type 0 where
   pub holds : (us vs : List Level) → 1 ≤ f → f ≤ CEILING → All (λ l. l .freq < f) us → All (λ l. f ≤ l .freq) vs → Nowhere x (us ++ vs)
       → Parted t s at us vs → Held t' s' (us ++ join x f vs)
 
 -- ---- the calls
 
-pub record Touches (t : Tabs) (s : Buckets) (x cap : ℕ) (t' : Tabs) (r : Touched) : Type 0 where
+pub record LevelTouches (t : Tabs) (s : Buckets) (x cap : ℕ) (t' : Tabs) (r : Touched) : Type 0 where
   pub answer : (us : List Level) (f : ℕ) (xs ys : List ℕ) (vs : List Level) → Held t s (us ++ level f (xs ++ x ∷ ys) ∷ vs) → r .frequency .0 ≡ raised cap f
   pub holds : (us : List Level) (f : ℕ) (xs ys : List ℕ) (vs : List Level)
       → Held t s (us ++ level f (xs ++ x ∷ ys) ∷ vs) → Held t' (r .state) (us ++ touched cap x f (xs ++ ys) vs)
 
 -- x is a slot that is marked free
 pub record Binding (t : Tabs) (s : Buckets) (x : ℕ) : Type 0 where
-  pub sound : Sound t s
+  pub sound : LevelsSound t s
   pub slot : x < length (t .freqs)
   pub next-own : getD (t .nexts) x 0 ≡ x
 
-pub record Binds (t : Tabs) (s : Buckets) (x f : ℕ) (t' : Tabs) (s' : Buckets) : Type 0 where
+pub record LevelBinds (t : Tabs) (s : Buckets) (x f : ℕ) (t' : Tabs) (s' : Buckets) : Type 0 where
   pub holds : (us vs : List Level) → 1 ≤ f → All (λ l. l .freq < f) us → All (λ l. f ≤ l .freq) vs → Held t s (us ++ vs) → Held t' s' (us ++ join x f vs)
 
 pub record Unbinds (t : Tabs) (s : Buckets) (x : ℕ) (t' : Tabs) (s' : Buckets) : Type 0 where
@@ -111,7 +111,7 @@ pub record Unbinds (t : Tabs) (s : Buckets) (x : ℕ) (t' : Tabs) (s' : Buckets)
 
 -- some tables go with this one
 abbrev pub SoundWith : List ℕ → Buckets → Type 0
-SoundWith b s = (f : List ℕ) × (p : List ℕ) × (n : List ℕ) × (sp : List ℕ) × Sound (tabs f p n b sp) s
+SoundWith b s = (f : List ℕ) × (p : List ℕ) × (n : List ℕ) × (sp : List ℕ) × LevelsSound (tabs f p n b sp) s
 
 -- the answers are those of the levels that are held
 pub record Lowest (b : List ℕ) (s : Buckets) (r : ℕ) : Type 0 where
@@ -124,5 +124,5 @@ pub record Heads (b : List ℕ) (s : Buckets) (g r : ℕ) : Type 0 where
   pub answer : (f p n sp : List ℕ) (ls : List Level) → Held (tabs f p n b sp) s ls → r ≡ headOf g ls
 
 -- no level is in use, whatever the tables held
-pub record Resets (f f' p' n' sp' : List ℕ) (s : Buckets) : Type 0 where
+pub record LevelsReset (f f' p' n' sp' : List ℕ) (s : Buckets) : Type 0 where
   pub holds : (b : List ℕ) → length b ≡ length f * WORDS → Held (tabs f' p' n' b sp') s []

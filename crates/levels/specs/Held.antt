@@ -5,9 +5,9 @@ use Prim.Native.Nat.{ℕ, _<_, _≤_}
 use lib.ListN.{length, getD}
 use Rattle.numbers.specs.Marks.{LIMIT, NONE}
 use Rattle.lists.specs.Lists.{All, Without, final}
-use Rattle.links.specs.Lent.{lent, Ring}
+use Rattle.links.specs.Linked.{Ring, linked}
 use Rattle.bucket_table.specs.declared.Buckets.{Buckets}
-use Rattle.bucket_table.specs.Records.{Row, nums, owner, Holds}
+use Rattle.bucket_table.specs.Records.{Row, nums, owner, RecordsHold}
 use Rattle.levels.specs.Levels.{Level, level}
 
 -- the lent tables
@@ -42,7 +42,7 @@ Missing x ls = All (λ l. Without x (l .slots)) ls
 
 -- the slots of a line are linked from its head to its tail, and each has the line's frequency and record
 pub record LineHeld (f p n b : List ℕ) (l : Line) : Type 0 where
-  pub ring : Ring (lent p n (l .row .ends)) (l .slots)
+  pub ring : Ring (linked p n (l .row .ends)) (l .slots)
   pub own : All (λ x. (getD f x 0 ≡ l .row .freq) × (owner b x ≡ l .row .num)) (l .slots)
 
 -- slot k is marked free
@@ -61,7 +61,7 @@ pub record Even (f p n : List ℕ) : Type 0 where
 pub record Lines (t : Tabs) (s : Buckets) (ls : List Line) : Type 0 where
   pub even : Even (t .freqs) (t .prevs) (t .nexts)
   pub spares-size : length (t .spares) ≡ length (t .freqs)
-  pub records : Holds (t .buckets) (t .spares) s (rows ls)
+  pub records : RecordsHold (t .buckets) (t .spares) s (rows ls)
   pub each : All (LineHeld (t .freqs) (t .prevs) (t .nexts) (t .buckets)) ls
   pub free : (k : ℕ) → k < length (t .freqs) → Missing k ls → Free (t .freqs) (t .prevs) (t .nexts) k
 
@@ -77,8 +77,8 @@ pub record Held (t : Tabs) (s : Buckets) (ls : List Level) : Type 0 where
   pub seen : view lines ≡ ls
 
 -- the tables hold some levels
-abbrev pub Sound : Tabs → Buckets → Type 0
-Sound t s = (ls : List Level) × Held t s ls
+abbrev pub LevelsSound : Tabs → Buckets → Type 0
+LevelsSound t s = (ls : List Level) × Held t s ls
 
 -- the tables hold the levels us and, above them, vs; `at` is the record of the last of us, NONE where there is none
 pub record Parted (t : Tabs) (s : Buckets) (at : ℕ) (us vs : List Level) : Type 0 where

@@ -26,9 +26,9 @@ abbrev pub Nowhere : ℕ → List Level → Type 0
 Nowhere x ls = All (λ l. Without x (l .slots)) ls
 
 -- the frequencies rise from above f on to at most the ceiling, and no level is empty
-abbrev pub Rising : ℕ → List Level → Type 0
-Rising f [] = Unit {0}
-Rising f (l ∷ ls) = (f < l .freq) × (l .freq ≤ CEILING) × (0 < length (l .slots)) × Rising (l .freq) ls
+abbrev pub LevelsRise : ℕ → List Level → Type 0
+LevelsRise f [] = Unit {0}
+LevelsRise f (l ∷ ls) = (f < l .freq) × (l .freq ≤ CEILING) × (0 < length (l .slots)) × LevelsRise (l .freq) ls
 
 -- the level f in front, unless it has no slot
 abbrev pub keep : ℕ → List ℕ → List Level → List Level

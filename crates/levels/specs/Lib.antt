@@ -1,4 +1,5 @@
 pub mod Levels
 pub mod Held
+pub mod Slices
 pub mod Calls
 pub mod Check

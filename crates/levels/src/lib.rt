@@ -8,8 +8,9 @@ ghost use Prim.Native.Nat.{_<_};
 ghost use lib.ListN.{length, getD};
 ghost use Rattle.lists.specs.Marks.{count};
 ghost use Rattle.bucket_table.specs.Records.{InTable};
-ghost use Rattle.levels.specs.Held.{tabs, Even, Sound};
-ghost use Rattle.levels.specs.Check.{taken, CleanSlot, Clean, Sized, SomeRecords, SlotOk, ListWalk, LevelsWalk};
+ghost use Rattle.levels.specs.Held.{Even, LevelsSound};
+ghost use Rattle.levels.specs.Slices.{before};
+ghost use Rattle.levels.specs.Check.{taken, CleanSlot, Clean, SomeRecords, SlotOk, ListWalk, LevelsWalk, LevelsSized};
 use bucket_table::Buckets;
 use numbers::Frequency;
 use numbers::LIMIT;
@@ -102,7 +103,7 @@ fn slot_ok(
     at: u64,
     slot: u64,
 ) -> bool
-    requires { ⌜ Sized (now freqs) (now prevs) (now nexts) (now buckets) ⌝ }
+    requires { ⌜ LevelsSized (now freqs) (now prevs) (now nexts) (now buckets) ⌝ }
     ensures { λ r. ⌜ (r ≡ true) ↔ SlotOk (now (freqs .entry)) (now (prevs .entry)) (now (buckets .entry)) number (frequency .0) at slot ⌝ }
 {
     if slot >= freqs.len() as u64 {
@@ -126,7 +127,7 @@ fn walk_list(
     number: u64,
     left: u64,
 ) -> Walked
-    requires { ⌜ Sized (now freqs) (now prevs) (now nexts) (now buckets) × InTable (now buckets) number ⌝ }
+    requires { ⌜ LevelsSized (now freqs) (now prevs) (now nexts) (now buckets) × InTable (now buckets) number ⌝ }
     ensures { λ r. ⌜ ListWalk (now (freqs .entry)) (now (prevs .entry)) (now (nexts .entry)) (now (buckets .entry)) number left r ⌝ }
 {
     let frequency = bucket_table::sound::frequency(buckets, number);
@@ -163,7 +164,7 @@ fn walk_levels(
     state: Buckets,
     bound: u64,
 ) -> bool
-    requires { ⌜ Sized (now freqs) (now prevs) (now nexts) (now buckets) × SomeRecords (now buckets) state ⌝ }
+    requires { ⌜ LevelsSized (now freqs) (now prevs) (now nexts) (now buckets) × SomeRecords (now buckets) state ⌝ }
     ensures { λ r. ⌜ LevelsWalk (now (freqs .entry)) (now (prevs .entry)) (now (nexts .entry)) (now (buckets .entry)) state bound r ⌝ }
 {
     let mut number = state.bottom;
@@ -188,7 +189,7 @@ pub fn is_sound(
     spares: &[u64],
     state: Buckets,
 ) -> bool
-    ensures { λ r. ⌜ (r ≡ true) ↔ Sound (tabs (now (freqs .entry)) (now (prevs .entry)) (now (nexts .entry)) (now (buckets .entry)) (now (spares .entry))) state ⌝ }
+    ensures { λ r. ⌜ (r ≡ true) ↔ LevelsSound (before freqs prevs nexts buckets spares) state ⌝ }
 {
     let capacity = freqs.len();
     if capacity as u64 > LIMIT {

@@ -3,10 +3,11 @@ ghost use mathlib.Core.Path.{_≡_};
 ghost use mathlib.Core.Bool.{true};
 ghost use Prim.Native.Nat.{_<_};
 ghost use lib.ListN.{length, getD};
-ghost use Rattle.links.specs.Lent.{Fits};
+ghost use Rattle.links.specs.Linked.{Fits};
 ghost use Rattle.bucket_table.specs.Records.{up, InTable, Spot};
-ghost use Rattle.levels.specs.Held.{tabs, Even};
-ghost use Rattle.levels.specs.Calls.{Frees, Attaching, Attaches, Fronts, InPlace, Lifts, Leaving, Leaves, Ready, Enters, Bound, Touches, Binding, Binds, Unbinds, SoundWith, Lowest, LowestFrequency, Heads, Resets};
+ghost use Rattle.levels.specs.Held.{Even};
+ghost use Rattle.levels.specs.Slices.{lent, before, after};
+ghost use Rattle.levels.specs.Calls.{Frees, Attaching, Attaches, Fronts, InPlace, Lifts, Leaving, Ready, Binding, Unbinds, SoundWith, Lowest, LowestFrequency, Heads, SlotBound, LevelTouches, LevelBinds, LevelLeaves, LevelEnters, LevelsReset};
 use crate::Left;
 use crate::Touched;
 use bucket_table::Buckets;
@@ -17,7 +18,9 @@ use numbers::Slot;
 // Marks a slot free.
 fn free(freqs: &mut [u64], prevs: &mut [u64], nexts: &mut [u64], slot: Slot)
     requires { ⌜ Fits (now prevs) (now nexts) (slot .0) × (slot .0 < length (now freqs)) ⌝ }
-    ensures { λ _. ⌜ Frees (now (freqs .entry)) (now (prevs .entry)) (now (nexts .entry)) (slot .0) (now (freqs .exit)) (now (prevs .exit)) (now (nexts .exit)) ⌝ }
+    ensures { λ _. ⌜ Frees
+        (now (freqs .entry)) (now (prevs .entry)) (now (nexts .entry)) (slot .0)
+        (now (freqs .exit)) (now (prevs .exit)) (now (nexts .exit)) ⌝ }
 {
     let s = slot.0 as usize;
     freqs[s] = 0;
@@ -36,7 +39,9 @@ fn attach(
     slot: Slot,
 )
     requires { ⌜ Attaching (now freqs) (now prevs) (now nexts) (now buckets) number (slot .0) ⌝ }
-    ensures { λ _. ⌜ Attaches (now (freqs .entry)) (now (prevs .entry)) (now (nexts .entry)) (now (buckets .entry)) number (frequency .0) (slot .0) (now (freqs .exit)) (now (prevs .exit)) (now (nexts .exit)) (now (buckets .exit)) ⌝ }
+    ensures { λ _. ⌜ Attaches
+        (now (freqs .entry)) (now (prevs .entry)) (now (nexts .entry)) (now (buckets .entry)) number (frequency .0) (slot .0)
+        (now (freqs .exit)) (now (prevs .exit)) (now (nexts .exit)) (now (buckets .exit)) ⌝ }
 {
     let ends = bucket_table::sound::ends(&buckets[..], number);
     let more = links::sound::push_front(prevs, nexts, ends, slot);
@@ -48,7 +53,9 @@ fn attach(
 // Moves a slot to the front of its list.
 fn front(prevs: &mut [u64], nexts: &mut [u64], buckets: &mut [u64], number: u64, slot: Slot)
     requires { ⌜ Fits (now prevs) (now nexts) (slot .0) × InTable (now buckets) number ⌝ }
-    ensures { λ _. ⌜ Fronts (now (prevs .entry)) (now (nexts .entry)) (now (buckets .entry)) number (slot .0) (now (prevs .exit)) (now (nexts .exit)) (now (buckets .exit)) ⌝ }
+    ensures { λ _. ⌜ Fronts
+        (now (prevs .entry)) (now (nexts .entry)) (now (buckets .entry)) number (slot .0)
+        (now (prevs .exit)) (now (nexts .exit)) (now (buckets .exit)) ⌝ }
 {
     let ends = bucket_table::sound::ends(&buckets[..], number);
     let moved = links::sound::to_front(prevs, nexts, ends, slot);
@@ -74,7 +81,9 @@ fn in_place(buckets: &[u64], state: Buckets, number: u64, frequency: Frequency) 
 // Gives a record and its only slot another frequency.
 fn lift(freqs: &mut [u64], buckets: &mut [u64], number: u64, frequency: Frequency, slot: Slot)
     requires { ⌜ InTable (now buckets) number × (slot .0 < length (now freqs)) ⌝ }
-    ensures { λ _. ⌜ Lifts (now (freqs .entry)) (now (buckets .entry)) number (frequency .0) (slot .0) (now (freqs .exit)) (now (buckets .exit)) ⌝ }
+    ensures { λ _. ⌜ Lifts
+        (now (freqs .entry)) (now (buckets .entry)) number (frequency .0) (slot .0)
+        (now (freqs .exit)) (now (buckets .exit)) ⌝ }
 {
     freqs[slot.0 as usize] = frequency.0;
     bucket_table::sound::raise(buckets, number, frequency);
@@ -91,8 +100,8 @@ fn leave(
     number: u64,
     slot: Slot,
 ) -> Left
-    requires { ⌜ Leaving (tabs (now freqs) (now prevs) (now nexts) (now buckets) (now spares)) state number (slot .0) ⌝ }
-    ensures { λ r. ⌜ Leaves (tabs (now (freqs .entry)) (now (prevs .entry)) (now (nexts .entry)) (now (buckets .entry)) (now (spares .entry))) state (slot .0) (tabs (now (freqs .exit)) (now (prevs .exit)) (now (nexts .exit)) (now (buckets .exit)) (now (spares .exit))) r ⌝ }
+    requires { ⌜ Leaving (lent freqs prevs nexts buckets spares) state number (slot .0) ⌝ }
+    ensures { λ r. ⌜ LevelLeaves (before freqs prevs nexts buckets spares) state (slot .0) (after freqs prevs nexts buckets spares) r ⌝ }
 {
     let ends = bucket_table::sound::ends(&buckets[..], number);
     let rest = links::sound::unlink(prevs, nexts, ends, slot);
@@ -124,8 +133,10 @@ fn enter(
     frequency: Frequency,
     slot: Slot,
 ) -> Buckets
-    requires { ⌜ Ready (tabs (now freqs) (now prevs) (now nexts) (now buckets) (now spares)) state at (slot .0) ⌝ }
-    ensures { λ r. ⌜ Enters (tabs (now (freqs .entry)) (now (prevs .entry)) (now (nexts .entry)) (now (buckets .entry)) (now (spares .entry))) state at (frequency .0) (slot .0) (tabs (now (freqs .exit)) (now (prevs .exit)) (now (nexts .exit)) (now (buckets .exit)) (now (spares .exit))) r ⌝ }
+    requires { ⌜ Ready (lent freqs prevs nexts buckets spares) state at (slot .0) ⌝ }
+    ensures { λ r. ⌜ LevelEnters
+        (before freqs prevs nexts buckets spares) state at (frequency .0) (slot .0)
+        (after freqs prevs nexts buckets spares) r ⌝ }
 {
     let opened = bucket_table::sound::ensure(buckets, spares, state, at, frequency);
     attach(freqs, prevs, nexts, buckets, opened.number, frequency, slot);
@@ -143,8 +154,10 @@ pub fn touch(
     slot: Slot,
     cap: Frequency,
 ) -> Touched
-    requires { ⌜ Bound (tabs (now freqs) (now prevs) (now nexts) (now buckets) (now spares)) state (slot .0) ⌝ }
-    ensures { λ r. ⌜ Touches (tabs (now (freqs .entry)) (now (prevs .entry)) (now (nexts .entry)) (now (buckets .entry)) (now (spares .entry))) state (slot .0) (cap .0) (tabs (now (freqs .exit)) (now (prevs .exit)) (now (nexts .exit)) (now (buckets .exit)) (now (spares .exit))) r ⌝ }
+    requires { ⌜ SlotBound (lent freqs prevs nexts buckets spares) state (slot .0) ⌝ }
+    ensures { λ r. ⌜ LevelTouches
+        (before freqs prevs nexts buckets spares) state (slot .0) (cap .0)
+        (after freqs prevs nexts buckets spares) r ⌝ }
 {
     let number = bucket_table::sound::owner(&buckets[..], slot);
     let f = bucket_table::sound::frequency(&buckets[..], number);
@@ -192,8 +205,10 @@ pub fn bind(
     slot: Slot,
     frequency: Frequency,
 ) -> Buckets
-    requires { ⌜ Binding (tabs (now freqs) (now prevs) (now nexts) (now buckets) (now spares)) state (slot .0) ⌝ }
-    ensures { λ r. ⌜ Binds (tabs (now (freqs .entry)) (now (prevs .entry)) (now (nexts .entry)) (now (buckets .entry)) (now (spares .entry))) state (slot .0) (frequency .0) (tabs (now (freqs .exit)) (now (prevs .exit)) (now (nexts .exit)) (now (buckets .exit)) (now (spares .exit))) r ⌝ }
+    requires { ⌜ Binding (lent freqs prevs nexts buckets spares) state (slot .0) ⌝ }
+    ensures { λ r. ⌜ LevelBinds
+        (before freqs prevs nexts buckets spares) state (slot .0) (frequency .0)
+        (after freqs prevs nexts buckets spares) r ⌝ }
 {
     let at = bucket_table::sound::place(&buckets[..], state, frequency);
     enter(
@@ -219,8 +234,8 @@ pub fn unbind(
     state: Buckets,
     slot: Slot,
 ) -> Buckets
-    requires { ⌜ Bound (tabs (now freqs) (now prevs) (now nexts) (now buckets) (now spares)) state (slot .0) ⌝ }
-    ensures { λ r. ⌜ Unbinds (tabs (now (freqs .entry)) (now (prevs .entry)) (now (nexts .entry)) (now (buckets .entry)) (now (spares .entry))) state (slot .0) (tabs (now (freqs .exit)) (now (prevs .exit)) (now (nexts .exit)) (now (buckets .exit)) (now (spares .exit))) r ⌝ }
+    requires { ⌜ SlotBound (lent freqs prevs nexts buckets spares) state (slot .0) ⌝ }
+    ensures { λ r. ⌜ Unbinds (before freqs prevs nexts buckets spares) state (slot .0) (after freqs prevs nexts buckets spares) r ⌝ }
 {
     let number = bucket_table::sound::owner(&buckets[..], slot);
     let left = leave(freqs, prevs, nexts, buckets, spares, state, number, slot);
@@ -277,7 +292,7 @@ pub fn next(nexts: &[u64], slot: Slot) -> u64
 // No level: all slots are marked free.
 pub fn reset(freqs: &mut [u64], prevs: &mut [u64], nexts: &mut [u64], spares: &mut [u64]) -> Buckets
     requires { ⌜ Even (now freqs) (now prevs) (now nexts) × (length (now spares) ≡ length (now freqs)) ⌝ }
-    ensures { λ r. ⌜ Resets (now (freqs .entry)) (now (freqs .exit)) (now (prevs .exit)) (now (nexts .exit)) (now (spares .exit)) r ⌝ }
+    ensures { λ r. ⌜ LevelsReset (now (freqs .entry)) (now (freqs .exit)) (now (prevs .exit)) (now (nexts .exit)) (now (spares .exit)) r ⌝ }
 {
     let mut s: usize = 0;
     while s < freqs.len() {

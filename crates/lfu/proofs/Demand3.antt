@@ -12,15 +12,15 @@ use Rattle.ledger.specs.CacheCalls.{eventReply, cacheCalls}
 use Rattle.ledger.proofs.FirstSentence.{first-sentence}
 use Rattle.ledger.proofs.SecondSentence.{second-sentence}
 use Rattle.ledger.proofs.Refusals.{done-refused}
-use Rattle.frequency_tables.specs.declared.State.{State}
-use Rattle.frequency_tables.specs.Tables.{Sized}
-use Rattle.frequency_tables.specs.Lent as lent
-use Rattle.frequency_tables.specs.Promise.{ledger, Does, By}
-use Rattle.frequency_tables.specs.Making.{Sizing, tooLarge, tooShort, fitting, MadeBy}
-use Rattle.frequency_tables.proofs.Agree.{reads-one}
-use Rattle.lfu_tables.specs.Tables.{CacheTables, CacheHolds}
-use Rattle.lfu_tables.specs.Lent.{cache, Makes}
-use Rattle.lfu_tables.proofs.Cached.{cache-holds-one, guests-apart}
+use Rattle.promise.specs.Promise.{ledger, By, DoesOn, Makes}
+use Rattle.promise.specs.Making.{Sizing, tooLarge, tooShort, fitting, MadeBy}
+use Rattle.promise.proofs.Agree.{reads-one}
+use Rattle.buckets_tables.specs.declared.State.{State}
+use Rattle.buckets_tables.specs.Tables.{Sized}
+use Rattle.buckets_tables.specs.Lent as lent
+use Rattle.cache_tables.specs.Tables.{CacheTables, CacheHolds}
+use Rattle.cache_tables.specs.Lent.{cache}
+use Rattle.cache_tables.proofs.Cached.{cache-holds-one, guests-apart}
 use Rattle.lfu.specs.Demand3.{insertionOf, lookupOf, leastOf, eventOf, history, Runs, RunsAsLedger, FirstAtCode, SecondAtCode}
 
 -- A reply says which event it was
@@ -57,8 +57,8 @@ log-back (a ∷ as′) c = λ i. event-back a c i ∷ log-back as′ (does a c .
 
 -- One promise on tables that hold a cache
 
-step : (a : CacheCall) (t : CacheTables) (s : State) (c : Cache) (r : Reply) (u : CacheTables) (z : State) → CacheHolds t s c → Makes a t s r u z →
-    Does cache (cacheCalls a) t s c r u z
+step : (a : CacheCall) (t : CacheTables) (s : State) (c : Cache) (r : Reply) (u : CacheTables) (z : State) → CacheHolds t s c → Makes cache a t s r u z →
+    DoesOn cache (cacheCalls a) t s c r u z
 step a t s c r u z h m =
     let cap = h .table .carries .capacity in
     let lim = h .table .carries .limit in

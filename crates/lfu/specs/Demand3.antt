@@ -13,11 +13,12 @@ use Rattle.ledger.specs.Cache.{Cache, newCache, Insertion, fresh, freshOut, old
 use Rattle.ledger.specs.History.{CacheCall, Insert, Get, Peek, Remove, Reset, PeekLfu, Evict, Clear, Len, Event, inserted, got, peeked, removed, reset, peekedLfu, evicted, cleared, measured, log, afterAll, Evicts}
 use Rattle.ledger.specs.CacheCalls.{eventReply}
 use Rattle.ledger.specs.Demand3.{CALLS, LeastGoes, OnlyInserts, Spares}
-use Rattle.frequency_tables.specs.declared.State.{State}
-use Rattle.frequency_tables.specs.Lent as lent
-use Rattle.frequency_tables.specs.Making.{Made}
-use Rattle.lfu_tables.specs.Tables.{CacheTables, CacheHolds}
-use Rattle.lfu_tables.specs.Lent.{cache, Makes}
+use Rattle.promise.specs.Promise.{Makes}
+use Rattle.promise.specs.Making.{Made}
+use Rattle.buckets_tables.specs.declared.State.{State}
+use Rattle.buckets_tables.specs.Lent as lent
+use Rattle.cache_tables.specs.Tables.{CacheTables, CacheHolds}
+use Rattle.cache_tables.specs.Lent.{cache}
 
 -- What a reply says, by kind of call: document 01's numbers read back
 
@@ -65,7 +66,7 @@ abbrev pub Runs : CacheTables → State → List CacheCall → List Reply → Ca
 Runs t s [] [] t' s' = (t' ≡ t) × (s' ≡ s)
 Runs t s [] (r ∷ rs) t' s' = ⊥
 Runs t s (a ∷ as′) [] t' s' = ⊥
-Runs t s (a ∷ as′) (r ∷ rs) t' s' = (u : CacheTables) × (z : State) × Makes a t s r u z × Runs u z as′ rs t' s'
+Runs t s (a ∷ as′) (r ∷ rs) t' s' = (u : CacheTables) × (z : State) × Makes cache a t s r u z × Runs u z as′ rs t' s'
 
 -- from tables that `new` has made: the calls, the replies, and the tables and the state after them
 pub record Served (capacity : ℕ) (calls : List CacheCall) (replies : List Reply) (t : CacheTables) (s : State) : Type 0 where

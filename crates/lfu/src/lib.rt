@@ -1,20 +1,19 @@
 // The calls of `LfuCache` that change one key, on any lent tables. Each checks first; where the tables hold a cache it does what the
 // cache's call does, else it says why not and leaves everything.
 ghost use Rattle.ledger.specs.History as ledger;
-ghost use Rattle.frequency_tables.specs.Tables.{tables};
-ghost use Rattle.frequency_reads.specs.Replies.{levelReply};
-ghost use Rattle.lfu_tables.specs.Tables.{withValues};
-ghost use Rattle.lfu_tables.specs.Lent.{Makes};
-ghost use Rattle.lfu_calls.specs.Replies.{insertionReply, valueReply, leastReply};
-use frequency_calls::Leveled;
-use frequency_reads::Level;
-use frequency_tables::State;
-use lfu_calls::Evicted;
-use lfu_calls::Inserted;
-use lfu_calls::Insertion;
-use lfu_calls::Least;
-use lfu_calls::Value;
-use lfu_calls::Valued;
+ghost use Rattle.promise.specs.Promise.{Makes};
+ghost use Rattle.answers.specs.Replies.{levelReply, insertionReply, valueReply, leastUsedReply};
+ghost use Rattle.cache_tables.specs.Slices.{before, after};
+ghost use Rattle.cache_tables.specs.Lent.{cache};
+use answers::Evicted;
+use answers::Inserted;
+use answers::Insertion;
+use answers::LeastUsed;
+use answers::Level;
+use answers::Leveled;
+use answers::Value;
+use answers::Valued;
+use buckets_tables::State;
 use numbers::Key;
 
 // Binds an absent key with its value; where no slot is free the key at the tail of the lowest list goes first, and is told. A bound
@@ -34,9 +33,11 @@ pub fn insert(
     key: Key,
     value: u64,
 ) -> Inserted
-    ensures { λ r. ⌜ Makes (ledger.Insert (key .0) value) (withValues (tables (now (keys .entry)) (now (freqs .entry)) (now (epochs .entry)) (now (prevs .entry)) (now (nexts .entry)) (now (arena .entry)) (now (index .entry)) (now (buckets .entry)) (now (spares .entry))) (now (values .entry))) state (insertionReply (r .answer)) (withValues (tables (now (keys .exit)) (now (freqs .exit)) (now (epochs .exit)) (now (prevs .exit)) (now (nexts .exit)) (now (arena .exit)) (now (index .exit)) (now (buckets .exit)) (now (spares .exit))) (now (values .exit))) (r .state) ⌝ }
+    ensures { λ r. ⌜ Makes cache (ledger.Insert (key .0) value)
+        (before keys freqs epochs prevs nexts arena index buckets spares values) state (insertionReply (r .answer))
+        (after keys freqs epochs prevs nexts arena index buckets spares values) (r .state) ⌝ }
 {
-    let why = lfu_check::refusal(
+    let why = cache_check::refusal(
         &keys[..],
         &freqs[..],
         &epochs[..],
@@ -50,7 +51,7 @@ pub fn insert(
         state,
     );
     if why.is_done() {
-        return lfu_inserts::sound::insert(
+        return cache_inserts::sound::insert(
             keys,
             freqs,
             epochs,
@@ -87,9 +88,11 @@ pub fn get(
     state: State,
     key: Key,
 ) -> Valued
-    ensures { λ r. ⌜ Makes (ledger.Get (key .0)) (withValues (tables (now (keys .entry)) (now (freqs .entry)) (now (epochs .entry)) (now (prevs .entry)) (now (nexts .entry)) (now (arena .entry)) (now (index .entry)) (now (buckets .entry)) (now (spares .entry))) (now (values .entry))) state (valueReply (r .answer)) (withValues (tables (now (keys .entry)) (now (freqs .exit)) (now (epochs .exit)) (now (prevs .exit)) (now (nexts .exit)) (now (arena .entry)) (now (index .entry)) (now (buckets .exit)) (now (spares .exit))) (now (values .entry))) (r .state) ⌝ }
+    ensures { λ r. ⌜ Makes cache (ledger.Get (key .0))
+        (before keys freqs epochs prevs nexts arena index buckets spares values) state (valueReply (r .answer))
+        (after keys freqs epochs prevs nexts arena index buckets spares values) (r .state) ⌝ }
 {
-    let why = lfu_check::refusal(
+    let why = cache_check::refusal(
         keys,
         &freqs[..],
         &epochs[..],
@@ -103,7 +106,7 @@ pub fn get(
         state,
     );
     if why.is_done() {
-        return lfu_calls::sound::get(
+        return cache_calls::sound::get(
             keys,
             freqs,
             epochs,
@@ -138,9 +141,11 @@ pub fn remove(
     state: State,
     key: Key,
 ) -> Valued
-    ensures { λ r. ⌜ Makes (ledger.Remove (key .0)) (withValues (tables (now (keys .entry)) (now (freqs .entry)) (now (epochs .entry)) (now (prevs .entry)) (now (nexts .entry)) (now (arena .entry)) (now (index .entry)) (now (buckets .entry)) (now (spares .entry))) (now (values .entry))) state (valueReply (r .answer)) (withValues (tables (now (keys .exit)) (now (freqs .exit)) (now (epochs .exit)) (now (prevs .exit)) (now (nexts .exit)) (now (arena .exit)) (now (index .exit)) (now (buckets .exit)) (now (spares .exit))) (now (values .exit))) (r .state) ⌝ }
+    ensures { λ r. ⌜ Makes cache (ledger.Remove (key .0))
+        (before keys freqs epochs prevs nexts arena index buckets spares values) state (valueReply (r .answer))
+        (after keys freqs epochs prevs nexts arena index buckets spares values) (r .state) ⌝ }
 {
-    let why = lfu_check::refusal(
+    let why = cache_check::refusal(
         &keys[..],
         &freqs[..],
         &epochs[..],
@@ -154,7 +159,7 @@ pub fn remove(
         state,
     );
     if why.is_done() {
-        return lfu_calls::sound::remove(
+        return cache_calls::sound::remove(
             keys,
             freqs,
             epochs,
@@ -189,9 +194,11 @@ pub fn evict_min_freq(
     values: &mut [u64],
     state: State,
 ) -> Evicted
-    ensures { λ r. ⌜ Makes ledger.Evict (withValues (tables (now (keys .entry)) (now (freqs .entry)) (now (epochs .entry)) (now (prevs .entry)) (now (nexts .entry)) (now (arena .entry)) (now (index .entry)) (now (buckets .entry)) (now (spares .entry))) (now (values .entry))) state (leastReply (r .answer)) (withValues (tables (now (keys .exit)) (now (freqs .exit)) (now (epochs .exit)) (now (prevs .exit)) (now (nexts .exit)) (now (arena .exit)) (now (index .exit)) (now (buckets .exit)) (now (spares .exit))) (now (values .exit))) (r .state) ⌝ }
+    ensures { λ r. ⌜ Makes cache ledger.Evict
+        (before keys freqs epochs prevs nexts arena index buckets spares values) state (leastUsedReply (r .answer))
+        (after keys freqs epochs prevs nexts arena index buckets spares values) (r .state) ⌝ }
 {
-    let why = lfu_check::refusal(
+    let why = cache_check::refusal(
         &keys[..],
         &freqs[..],
         &epochs[..],
@@ -205,7 +212,7 @@ pub fn evict_min_freq(
         state,
     );
     if why.is_done() {
-        return lfu_calls::sound::evict_min_freq(
+        return cache_calls::sound::evict_min_freq(
             keys,
             freqs,
             epochs,
@@ -220,7 +227,7 @@ pub fn evict_min_freq(
         );
     }
     Evicted {
-        answer: Least::Refused(why),
+        answer: LeastUsed::Refused(why),
         state: state,
     }
 }
@@ -240,9 +247,11 @@ pub fn reset_frequency(
     state: State,
     key: Key,
 ) -> Leveled
-    ensures { λ r. ⌜ Makes (ledger.Reset (key .0)) (withValues (tables (now (keys .entry)) (now (freqs .entry)) (now (epochs .entry)) (now (prevs .entry)) (now (nexts .entry)) (now (arena .entry)) (now (index .entry)) (now (buckets .entry)) (now (spares .entry))) (now (values .entry))) state (levelReply (r .answer)) (withValues (tables (now (keys .exit)) (now (freqs .exit)) (now (epochs .exit)) (now (prevs .exit)) (now (nexts .exit)) (now (arena .exit)) (now (index .exit)) (now (buckets .exit)) (now (spares .exit))) (now (values .entry))) (r .state) ⌝ }
+    ensures { λ r. ⌜ Makes cache (ledger.Reset (key .0))
+        (before keys freqs epochs prevs nexts arena index buckets spares values) state (levelReply (r .answer))
+        (after keys freqs epochs prevs nexts arena index buckets spares values) (r .state) ⌝ }
 {
-    let why = lfu_check::refusal(
+    let why = cache_check::refusal(
         &keys[..],
         &freqs[..],
         &epochs[..],
@@ -256,7 +265,7 @@ pub fn reset_frequency(
         state,
     );
     if why.is_done() {
-        return lfu_calls::sound::reset_frequency(
+        return cache_calls::sound::reset_frequency(
             keys,
             freqs,
             epochs,

@@ -7,9 +7,9 @@ use lib.ListN.{length}
 use Rattle.lists.proofs.Tests.{by-eq}
 use Rattle.ledger.specs.Buckets.{Reply}
 use Rattle.ledger.specs.CacheCalls.{insertBatchCall}
-use Rattle.frequency_tables.specs.declared.State.{State}
-use Rattle.lfu_tables.specs.Tables.{CacheTables}
-use Rattle.lfu_tables.proofs.Agreeing.{CacheAgree, promises-agree}
+use Rattle.buckets_tables.specs.declared.State.{State}
+use Rattle.cache_tables.specs.Tables.{CacheTables}
+use Rattle.cache_tables.proofs.Agreeing.{CacheAgree, promises-agree}
 use Rattle.lfu_batches.specs.Batches.{pairs, InsertsAll}
 
 pub inserts-agree : (ks vs : List ℕ) (t₀ : CacheTables) (s₀ : State) (r q : Reply) (t u : CacheTables) (s z : State) →

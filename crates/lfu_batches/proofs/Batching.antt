@@ -14,10 +14,11 @@ use Rattle.ledger.specs.History.{CacheCall, Insert, Remove, does}
 use Rattle.ledger.specs.CacheCalls.{cacheCalls, countedCache, insertBatchCall, removeBatchCall}
 use Rattle.ledger.proofs.CacheKept.{does-capacity}
 use Rattle.ledger.proofs.Refusals.{done-refused}
-use Rattle.frequency_tables.specs.declared.State.{State}
-use Rattle.frequency_tables.specs.Tables.{Sized}
-use Rattle.lfu_tables.specs.Tables.{CacheTables, CacheHolds, CacheSound}
-use Rattle.lfu_tables.specs.Lent.{CacheDoes}
+use Rattle.promise.specs.Promise.{Does, Sound}
+use Rattle.buckets_tables.specs.declared.State.{State}
+use Rattle.buckets_tables.specs.Tables.{Sized}
+use Rattle.cache_tables.specs.Tables.{CacheTables, CacheHolds}
+use Rattle.cache_tables.specs.Lent.{cache}
 use Rattle.lfu_batches.specs.Batches.{pairs, boundIn}
 
 -- the single call for an item, and what its reply counts, which is 1 at most
@@ -55,17 +56,17 @@ module _ {A : Type 0} (c : Single A) where
 
   module _ (all left : List A) (t : CacheTables) (s : State) (i n : ℕ) (t' : CacheTables) (s' : State) (b : Batching all left t s i n t' s') where
     -- what the next call asks, and that the tables are as long as they were
-    pub batching-sound : CacheSound t s → CacheSound t' s'
+    pub batching-sound : Sound cache t s → Sound cache t' s'
     batching-sound w = let o = b .onward (w .0) (w .1) in (o .now-held, o .holds)
 
-    pub batching-sized : (w : CacheSound t s) → Sized (t' .base) (w .0 .table .capacity) × (length (t' .values) ≡ w .0 .table .capacity)
+    pub batching-sized : (w : Sound cache t s) → Sized (t' .base) (w .0 .table .capacity) × (length (t' .values) ≡ w .0 .table .capacity)
     batching-sized w =
         let o = b .onward (w .0) (w .1) in (
           subst (Sized (t' .base)) (o .capacity) (o .holds .table .carries .sized),
           ap (λ (us : List ℕ). length us) (o .holds .values) ∙ o .holds .formed .fits ∙ o .capacity,
         )
 
-    pub batching-more : (x : A) (rest : List A) → left ≡ x ∷ rest → (r : Reply) (t'' : CacheTables) (s'' : State) → CacheDoes (cacheCalls (c .call x)) t' s' r t'' s'' →
+    pub batching-more : (x : A) (rest : List A) → left ≡ x ∷ rest → (r : Reply) (t'' : CacheTables) (s'' : State) → Does cache (cacheCalls (c .call x)) t' s' r t'' s'' →
         (m : ℕ) → m ≡ c .counts r → Batching all rest t s (i + 1) (n + m) t'' s''
     unfolding cacheCalls
     batching-more x rest next r t'' s'' done-so m is = record {
@@ -84,7 +85,7 @@ module _ {A : Type 0} (c : Single A) where
           };
     }
 
-    pub batching-end : left ≡ [] → CacheDoes (λ d. countedCache (batch all d)) t s (done (n ∷ [])) t' s'
+    pub batching-end : left ≡ [] → Does cache (λ d. countedCache (batch all d)) t s (done (n ∷ [])) t' s'
     batching-end none-left d h =
         let o = b .onward d h in
         let rest = ap (λ (xs : List A). batch xs (o .now-held)) none-left in
@@ -154,7 +155,7 @@ removes-same (k ∷ ks) d =
     λ i. (remove-counts (r .0) i + rest i .0, rest i .1)
 
 same-does : (f g : Cache → ℕ × Cache) → ((d : Cache) → f d ≡ g d) → (t : CacheTables) (s : State) (r : Reply) (t' : CacheTables) (s' : State) →
-    CacheDoes (λ d. countedCache (f d)) t s r t' s' → CacheDoes (λ d. countedCache (g d)) t s r t' s'
+    Does cache (λ d. countedCache (f d)) t s r t' s' → Does cache (λ d. countedCache (g d)) t s r t' s'
 same-does f g same t s r t' s' d c h =
     let w = d c h in
     record {
@@ -164,13 +165,13 @@ same-does f g same t s r t' s' d c h =
     }
 
 pub inserts-end : (all left : List (ℕ × ℕ)) (t : CacheTables) (s : State) (i n : ℕ) (t' : CacheTables) (s' : State) → left ≡ [] →
-    Batching inserts all left t s i n t' s' → CacheDoes (insertBatchCall all) t s (done (n ∷ [])) t' s'
+    Batching inserts all left t s i n t' s' → Does cache (insertBatchCall all) t s (done (n ∷ [])) t' s'
 unfolding insertBatchCall
 inserts-end all left t s i n t' s' none-left b =
     same-does (batch inserts all) (cacheInsertBatch all) (inserts-same all) t s _ t' s' (batching-end inserts all left t s i n t' s' b none-left)
 
 pub removes-end : (all left : List ℕ) (t : CacheTables) (s : State) (i n : ℕ) (t' : CacheTables) (s' : State) → left ≡ [] →
-    Batching removes all left t s i n t' s' → CacheDoes (removeBatchCall all) t s (done (n ∷ [])) t' s'
+    Batching removes all left t s i n t' s' → Does cache (removeBatchCall all) t s (done (n ∷ [])) t' s'
 unfolding removeBatchCall
 removes-end all left t s i n t' s' none-left b =
     same-does (batch removes all) (cacheRemoveBatch all) (removes-same all) t s _ t' s' (batching-end removes all left t s i n t' s' b none-left)

@@ -12,12 +12,13 @@ use Rattle.ledger.specs.Cache.{Cache, Lookup, hit, miss, valueOf, moved, wasHit
 use Rattle.ledger.specs.CacheCalls.{touchBatchCall}
 use Rattle.ledger.proofs.Batches.{cacheTouchBatch-formed}
 use Rattle.ledger.proofs.Refusals.{done-refused}
-use Rattle.frequency_tables.specs.declared.State.{State}
-use Rattle.frequency_tables.specs.Tables.{Tables}
-use Rattle.frequency_tables.specs.Holds.{Holds}
-use Rattle.frequency_tables.specs.Calls.{Does}
-use Rattle.lfu_tables.specs.Tables.{withValues}
-use Rattle.lfu_tables.specs.Lent.{CacheDoes}
+use Rattle.promise.specs.Promise.{Does}
+use Rattle.buckets_tables.specs.declared.State.{State}
+use Rattle.buckets_tables.specs.Tables.{Tables}
+use Rattle.buckets_tables.specs.Holds.{Holds}
+use Rattle.buckets_tables.specs.Lent.{buckets}
+use Rattle.cache_tables.specs.Tables.{withValues}
+use Rattle.cache_tables.specs.Lent.{cache}
 
 -- the cache with another ledger
 abbrev over : Cache → Outcome → Cache
@@ -43,15 +44,15 @@ gets-touch (k ∷ ks) c =
     let rest = ap (λ (d : Cache). keyBatch cacheGet ks d) (s .1) ∙ gets-touch ks (over c (touch k (c .table))) in
     λ i. (s .0 i + rest i .0, rest i .1)
 
-pub touches-all : (ks : List ℕ) (t : Tables) (vs : List ℕ) (s : State) (n : ℕ) (t' : Tables) (s' : State) → Does (touchBatch ks) t s (done (n ∷ [])) t' s' →
-    CacheDoes (touchBatchCall ks) (withValues t vs) s (done (n ∷ [])) (withValues t' vs) s'
+pub touches-all : (ks : List ℕ) (t : Tables) (vs : List ℕ) (s : State) (n : ℕ) (t' : Tables) (s' : State) → Does buckets (touchBatch ks) t s (done (n ∷ [])) t' s' →
+    Does cache (touchBatchCall ks) (withValues t vs) s (done (n ∷ [])) (withValues t' vs) s'
 unfolding touchBatch touchBatchCall cacheTouchBatch
 touches-all ks t vs s n t' s' d c h =
     let same = gets-touch ks c in
     record {
-      answer = d .answers (c .table) (h .table) ∙ ap (λ (z : ℕ × Cache). done (z .0 ∷ [])) (sym same);
+      answer = d (c .table) (h .table) .answer ∙ ap (λ (z : ℕ × Cache). done (z .0 ∷ [])) (sym same);
       holds = record {
-        table = subst (λ (z : ℕ × Cache). Holds t' s' (z .1 .table)) (sym same) (d .holds (c .table) (h .table));
+        table = subst (λ (z : ℕ × Cache). Holds t' s' (z .1 .table)) (sym same) (d (c .table) (h .table) .holds);
         values = h .values ∙ ap (λ (z : ℕ × Cache). z .1 .values) (sym same);
         formed = cacheTouchBatch-formed ks c (h .formed);
       };

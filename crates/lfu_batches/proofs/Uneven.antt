@@ -12,11 +12,12 @@ use Rattle.numbers.specs.declared.Answer.the-variants.{Done, Short, Capacity}
 use Rattle.lists.proofs.Tests.{by-eq, if-lt}
 use Rattle.ledger.specs.Buckets.{Reply, refused}
 use Rattle.ledger.specs.CacheCalls.{insertBatchCall}
-use Rattle.frequency_tables.specs.declared.State.{State}
-use Rattle.lfu_tables.specs.Tables.{CacheTables, CacheSound}
-use Rattle.lfu_tables.specs.Lent.{CacheDoes}
-use Rattle.lfu_tables.proofs.Public as public
-use Rattle.lfu_check.specs.Check.{shortOf}
+use Rattle.promise.specs.Promise.{Does, Sound}
+use Rattle.buckets_tables.specs.declared.State.{State}
+use Rattle.cache_tables.specs.Tables.{CacheTables}
+use Rattle.cache_tables.proofs.Public as public
+use Rattle.cache_tables.specs.Lent.{cache}
+use Rattle.cache_check.specs.Check.{shortOf}
 use Rattle.lfu_batches.specs.Batches.{pairs, InsertsAll, BatchChecks}
 
 capacity-not-done : Capacity ≡ Done → ⊥
@@ -32,10 +33,10 @@ module _ (ks vs : List ℕ) (t : CacheTables) (s : State) (a : Answer) (done : B
   even-done : done ≡ true → length ks ≡ length vs
   even-done e = by-eq (length ks) (length vs) (λ q. q) (λ n. absurd (never-done (s .capacity) (sym (c .uneven n) ∙ told .0 e)))
 
-  pub checked : done ≡ true → CacheSound t s × (length ks ≡ length vs)
+  pub checked : done ≡ true → Sound cache t s × (length ks ≡ length vs)
   checked e = (public.checked t s a done (c .even (even-done e)) told e, even-done e)
 
-  pub inserts-all : (r : Reply) (t' : CacheTables) (s' : State) → done ≡ true → CacheDoes (insertBatchCall (pairs ks vs)) t s r t' s' → InsertsAll ks vs t s r t' s'
+  pub inserts-all : (r : Reply) (t' : CacheTables) (s' : State) → done ≡ true → Does cache (insertBatchCall (pairs ks vs)) t s r t' s' → InsertsAll ks vs t s r t' s'
   inserts-all r t' s' e d = record {
     even = λ q. public.does t s a done (c .even q) told (insertBatchCall (pairs ks vs)) r t' s' e d;
     uneven = λ n. absurd (n (even-done e));

@@ -10,11 +10,11 @@ use lib.ListN.{length}
 use Rattle.numbers.specs.declared.Answer.{Answer}
 use Rattle.ledger.specs.Buckets.{Reply, done, refused}
 use Rattle.ledger.specs.CacheCalls.{insertBatchCall}
-use Rattle.frequency_tables.specs.declared.State.{State}
-use Rattle.frequency_tables.specs.Promise.{Refuses, Promised, Checks}
-use Rattle.lfu_tables.specs.Tables.{CacheTables}
-use Rattle.lfu_tables.specs.Lent.{cache}
-use Rattle.lfu_check.specs.Check.{shortOf}
+use Rattle.promise.specs.Promise.{Refuses, Promised, Checks}
+use Rattle.buckets_tables.specs.declared.State.{State}
+use Rattle.cache_tables.specs.Tables.{CacheTables}
+use Rattle.cache_tables.specs.Lent.{cache}
+use Rattle.cache_check.specs.Check.{shortOf}
 
 -- two slices, item by item
 abbrev pub pairs : List ℕ → List ℕ → List (ℕ × ℕ)

@@ -1,19 +1,17 @@
 // The batches of `LfuCache`, on any lent tables: one check, then the single call for each item in order, past refusals.
 ghost use mathlib.Core.Path.{_≡_};
 ghost use Rattle.ledger.specs.CacheCalls.{removeBatchCall, touchBatchCall};
-ghost use Rattle.frequency_tables.specs.Tables.{tables};
-ghost use Rattle.frequency_tables.specs.Promise.{Promised};
-ghost use Rattle.frequency_reads.specs.Replies.{countReply};
-ghost use Rattle.lfu_tables.specs.Tables.{withValues};
-ghost use Rattle.lfu_tables.specs.Lent.{cache};
-ghost use Rattle.lfu_calls.specs.Replies.{insertionReply, valueReply};
 ghost use Rattle.ledger.specs.Buckets.{wasDone};
+ghost use Rattle.promise.specs.Promise.{Promised};
+ghost use Rattle.answers.specs.Replies.{countReply, insertionReply, valueReply};
+ghost use Rattle.cache_tables.specs.Slices.{before, after};
+ghost use Rattle.cache_tables.specs.Lent.{cache};
 ghost use Rattle.lfu_batches.specs.Batches.{boundIn, BatchChecks, InsertsAll};
-use frequency_batches::Counted;
-use frequency_reads::Count;
-use frequency_tables::State;
-use lfu_calls::Insertion;
-use lfu_calls::Value;
+use answers::Count;
+use answers::Counted;
+use answers::Insertion;
+use answers::Value;
+use buckets_tables::State;
 use numbers::Answer;
 
 pub mod sound;
@@ -56,12 +54,13 @@ fn refusal(
     items: &[u64],
     given: &[u64],
 ) -> Answer
-    ensures { λ r. ⌜ BatchChecks (now (items .entry)) (now (given .entry)) (withValues (tables (now (keys .entry)) (now (freqs .entry)) (now (epochs .entry)) (now (prevs .entry)) (now (nexts .entry)) (now (arena .entry)) (now (index .entry)) (now (buckets .entry)) (now (spares .entry))) (now (values .entry))) state r ⌝ }
+    ensures { λ r. ⌜ BatchChecks (now (items .entry)) (now (given .entry))
+        (before keys freqs epochs prevs nexts arena index buckets spares values) state r ⌝ }
 {
     if items.len() != given.len() {
-        return lfu_check::too_short(state.capacity);
+        return cache_check::too_short(state.capacity);
     }
-    lfu_check::refusal(
+    cache_check::refusal(
         keys,
         freqs,
         epochs,
@@ -92,7 +91,9 @@ pub fn insert_batch(
     items: &[u64],
     given: &[u64],
 ) -> Counted
-    ensures { λ r. ⌜ InsertsAll (now (items .entry)) (now (given .entry)) (withValues (tables (now (keys .entry)) (now (freqs .entry)) (now (epochs .entry)) (now (prevs .entry)) (now (nexts .entry)) (now (arena .entry)) (now (index .entry)) (now (buckets .entry)) (now (spares .entry))) (now (values .entry))) state (countReply (r .answer)) (withValues (tables (now (keys .exit)) (now (freqs .exit)) (now (epochs .exit)) (now (prevs .exit)) (now (nexts .exit)) (now (arena .exit)) (now (index .exit)) (now (buckets .exit)) (now (spares .exit))) (now (values .exit))) (r .state) ⌝ }
+    ensures { λ r. ⌜ InsertsAll (now (items .entry)) (now (given .entry))
+        (before keys freqs epochs prevs nexts arena index buckets spares values) state (countReply (r .answer))
+        (after keys freqs epochs prevs nexts arena index buckets spares values) (r .state) ⌝ }
 {
     let why = refusal(
         &keys[..],
@@ -152,9 +153,11 @@ pub fn remove_batch(
     state: State,
     items: &[u64],
 ) -> Counted
-    ensures { λ r. ⌜ Promised cache (removeBatchCall (now (items .entry))) (withValues (tables (now (keys .entry)) (now (freqs .entry)) (now (epochs .entry)) (now (prevs .entry)) (now (nexts .entry)) (now (arena .entry)) (now (index .entry)) (now (buckets .entry)) (now (spares .entry))) (now (values .entry))) state (countReply (r .answer)) (withValues (tables (now (keys .exit)) (now (freqs .exit)) (now (epochs .exit)) (now (prevs .exit)) (now (nexts .exit)) (now (arena .exit)) (now (index .exit)) (now (buckets .exit)) (now (spares .exit))) (now (values .exit))) (r .state) ⌝ }
+    ensures { λ r. ⌜ Promised cache (removeBatchCall (now (items .entry)))
+        (before keys freqs epochs prevs nexts arena index buckets spares values) state (countReply (r .answer))
+        (after keys freqs epochs prevs nexts arena index buckets spares values) (r .state) ⌝ }
 {
-    let why = lfu_check::refusal(
+    let why = cache_check::refusal(
         &keys[..],
         &freqs[..],
         &epochs[..],
@@ -209,9 +212,11 @@ pub fn touch_batch(
     state: State,
     items: &[u64],
 ) -> Counted
-    ensures { λ r. ⌜ Promised cache (touchBatchCall (now (items .entry))) (withValues (tables (now (keys .entry)) (now (freqs .entry)) (now (epochs .entry)) (now (prevs .entry)) (now (nexts .entry)) (now (arena .entry)) (now (index .entry)) (now (buckets .entry)) (now (spares .entry))) (now (values .entry))) state (countReply (r .answer)) (withValues (tables (now (keys .entry)) (now (freqs .exit)) (now (epochs .exit)) (now (prevs .exit)) (now (nexts .exit)) (now (arena .entry)) (now (index .entry)) (now (buckets .exit)) (now (spares .exit))) (now (values .entry))) (r .state) ⌝ }
+    ensures { λ r. ⌜ Promised cache (touchBatchCall (now (items .entry)))
+        (before keys freqs epochs prevs nexts arena index buckets spares values) state (countReply (r .answer))
+        (after keys freqs epochs prevs nexts arena index buckets spares values) (r .state) ⌝ }
 {
-    let why = lfu_check::refusal(
+    let why = cache_check::refusal(
         keys,
         &freqs[..],
         &epochs[..],
@@ -225,7 +230,7 @@ pub fn touch_batch(
         state,
     );
     if why.is_done() {
-        let hit = frequency_batches::sound::touch_batch(
+        let hit = buckets_batches::sound::touch_batch(
             keys,
             freqs,
             epochs,

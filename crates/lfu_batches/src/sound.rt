@@ -3,15 +3,15 @@
 ghost use mathlib.Core.Path.{_≡_};
 ghost use lib.ListN.{length};
 ghost use Rattle.ledger.specs.CacheCalls.{insertBatchCall, removeBatchCall};
-ghost use Rattle.frequency_tables.specs.Tables.{tables};
-ghost use Rattle.frequency_reads.specs.Replies.{numberReply};
-ghost use Rattle.lfu_tables.specs.Tables.{withValues, CacheSound};
-ghost use Rattle.lfu_tables.specs.Lent.{CacheDoes};
+ghost use Rattle.promise.specs.Promise.{Does, Sound};
+ghost use Rattle.answers.specs.Replies.{numberReply};
+ghost use Rattle.cache_tables.specs.Slices.{lent, before, after};
+ghost use Rattle.cache_tables.specs.Lent.{cache};
 ghost use Rattle.lfu_batches.specs.Batches.{pairs};
 use crate::bound_once;
 use crate::valued_once;
-use frequency_batches::Batched;
-use frequency_tables::State;
+use buckets_batches::Batched;
+use buckets_tables::State;
 use numbers::Key;
 
 // Inserts each key with its value; counts the keys that are newly bound.
@@ -30,15 +30,17 @@ pub fn insert_batch(
     items: &[u64],
     given: &[u64],
 ) -> Batched
-    requires { ⌜ CacheSound (withValues (tables (now keys) (now freqs) (now epochs) (now prevs) (now nexts) (now arena) (now index) (now buckets) (now spares)) (now values)) state × (length (now items) ≡ length (now given)) ⌝ }
-    ensures { λ r. ⌜ CacheDoes (insertBatchCall (pairs (now (items .entry)) (now (given .entry)))) (withValues (tables (now (keys .entry)) (now (freqs .entry)) (now (epochs .entry)) (now (prevs .entry)) (now (nexts .entry)) (now (arena .entry)) (now (index .entry)) (now (buckets .entry)) (now (spares .entry))) (now (values .entry))) state (numberReply (r .done)) (withValues (tables (now (keys .exit)) (now (freqs .exit)) (now (epochs .exit)) (now (prevs .exit)) (now (nexts .exit)) (now (arena .exit)) (now (index .exit)) (now (buckets .exit)) (now (spares .exit))) (now (values .exit))) (r .state) ⌝ }
+    requires { ⌜ Sound cache (lent keys freqs epochs prevs nexts arena index buckets spares values) state × (length (now items) ≡ length (now given)) ⌝ }
+    ensures { λ r. ⌜ Does cache (insertBatchCall (pairs (now (items .entry)) (now (given .entry))))
+        (before keys freqs epochs prevs nexts arena index buckets spares values) state (numberReply (r .done))
+        (after keys freqs epochs prevs nexts arena index buckets spares values) (r .state) ⌝ }
 {
     let mut done: u64 = 0;
     let mut i = 0;
     while i < items.len() {
         let item = items[i];
         let value = given[i];
-        let entered = lfu_inserts::sound::insert(
+        let entered = cache_inserts::sound::insert(
             keys,
             freqs,
             epochs,
@@ -80,14 +82,16 @@ pub fn remove_batch(
     mut state: State,
     items: &[u64],
 ) -> Batched
-    requires { ⌜ CacheSound (withValues (tables (now keys) (now freqs) (now epochs) (now prevs) (now nexts) (now arena) (now index) (now buckets) (now spares)) (now values)) state ⌝ }
-    ensures { λ r. ⌜ CacheDoes (removeBatchCall (now (items .entry))) (withValues (tables (now (keys .entry)) (now (freqs .entry)) (now (epochs .entry)) (now (prevs .entry)) (now (nexts .entry)) (now (arena .entry)) (now (index .entry)) (now (buckets .entry)) (now (spares .entry))) (now (values .entry))) state (numberReply (r .done)) (withValues (tables (now (keys .exit)) (now (freqs .exit)) (now (epochs .exit)) (now (prevs .exit)) (now (nexts .exit)) (now (arena .exit)) (now (index .exit)) (now (buckets .exit)) (now (spares .exit))) (now (values .exit))) (r .state) ⌝ }
+    requires { ⌜ Sound cache (lent keys freqs epochs prevs nexts arena index buckets spares values) state ⌝ }
+    ensures { λ r. ⌜ Does cache (removeBatchCall (now (items .entry)))
+        (before keys freqs epochs prevs nexts arena index buckets spares values) state (numberReply (r .done))
+        (after keys freqs epochs prevs nexts arena index buckets spares values) (r .state) ⌝ }
 {
     let mut done: u64 = 0;
     let mut i = 0;
     while i < items.len() {
         let item = items[i];
-        let gone = lfu_calls::sound::remove(
+        let gone = cache_calls::sound::remove(
             keys,
             freqs,
             epochs,

@@ -1,14 +1,13 @@
 // The calls of `LfuCache` that only answer, on any lent tables: each checks first.
 ghost use Rattle.ledger.specs.History as ledger;
-ghost use Rattle.frequency_tables.specs.Tables.{tables};
-ghost use Rattle.frequency_reads.specs.Replies.{countReply};
-ghost use Rattle.lfu_tables.specs.Tables.{withValues};
-ghost use Rattle.lfu_tables.specs.Lent.{Answers};
-ghost use Rattle.lfu_calls.specs.Replies.{valueReply, leastReply};
-use frequency_reads::Count;
-use frequency_tables::State;
-use lfu_calls::Least;
-use lfu_calls::Value;
+ghost use Rattle.promise.specs.Promise.{Answers};
+ghost use Rattle.answers.specs.Replies.{countReply, valueReply, leastUsedReply};
+ghost use Rattle.cache_tables.specs.Slices.{before};
+ghost use Rattle.cache_tables.specs.Lent.{cache};
+use answers::Count;
+use answers::LeastUsed;
+use answers::Value;
+use buckets_tables::State;
 use numbers::Key;
 
 // The value of a bound key.
@@ -26,9 +25,10 @@ pub fn peek(
     state: State,
     key: Key,
 ) -> Value
-    ensures { λ r. ⌜ Answers (ledger.Peek (key .0)) (withValues (tables (now (keys .entry)) (now (freqs .entry)) (now (epochs .entry)) (now (prevs .entry)) (now (nexts .entry)) (now (arena .entry)) (now (index .entry)) (now (buckets .entry)) (now (spares .entry))) (now (values .entry))) state (valueReply r) ⌝ }
+    ensures { λ r. ⌜ Answers cache (ledger.Peek (key .0))
+        (before keys freqs epochs prevs nexts arena index buckets spares values) state (valueReply r) ⌝ }
 {
-    let why = lfu_check::refusal(
+    let why = cache_check::refusal(
         keys,
         freqs,
         epochs,
@@ -42,7 +42,7 @@ pub fn peek(
         state,
     );
     if why.is_done() {
-        return lfu_calls::sound::reads::peek(keys, index, values, key);
+        return cache_calls::sound::reads::peek(keys, index, values, key);
     }
     Value::Refused(why)
 }
@@ -60,10 +60,11 @@ pub fn peek_lfu(
     spares: &[u64],
     values: &[u64],
     state: State,
-) -> Least
-    ensures { λ r. ⌜ Answers ledger.PeekLfu (withValues (tables (now (keys .entry)) (now (freqs .entry)) (now (epochs .entry)) (now (prevs .entry)) (now (nexts .entry)) (now (arena .entry)) (now (index .entry)) (now (buckets .entry)) (now (spares .entry))) (now (values .entry))) state (leastReply r) ⌝ }
+) -> LeastUsed
+    ensures { λ r. ⌜ Answers cache ledger.PeekLfu
+        (before keys freqs epochs prevs nexts arena index buckets spares values) state (leastUsedReply r) ⌝ }
 {
-    let why = lfu_check::refusal(
+    let why = cache_check::refusal(
         keys,
         freqs,
         epochs,
@@ -77,9 +78,9 @@ pub fn peek_lfu(
         state,
     );
     if why.is_done() {
-        return lfu_calls::sound::reads::peek_lfu(keys, buckets, values, state);
+        return cache_calls::sound::reads::peek_lfu(keys, buckets, values, state);
     }
-    Least::Refused(why)
+    LeastUsed::Refused(why)
 }
 
 // How many keys are bound.
@@ -96,9 +97,10 @@ pub fn len(
     values: &[u64],
     state: State,
 ) -> Count
-    ensures { λ r. ⌜ Answers ledger.Len (withValues (tables (now (keys .entry)) (now (freqs .entry)) (now (epochs .entry)) (now (prevs .entry)) (now (nexts .entry)) (now (arena .entry)) (now (index .entry)) (now (buckets .entry)) (now (spares .entry))) (now (values .entry))) state (countReply r) ⌝ }
+    ensures { λ r. ⌜ Answers cache ledger.Len
+        (before keys freqs epochs prevs nexts arena index buckets spares values) state (countReply r) ⌝ }
 {
-    let why = lfu_check::refusal(
+    let why = cache_check::refusal(
         keys,
         freqs,
         epochs,
@@ -112,7 +114,7 @@ pub fn len(
         state,
     );
     if why.is_done() {
-        return Count::Is(frequency_reads::sound::len(state));
+        return Count::Is(buckets_reads::sound::len(state));
     }
     Count::Refused(why)
 }

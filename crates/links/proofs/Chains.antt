@@ -10,8 +10,8 @@ use lib.Seq.{getD-set-other}
 use Rattle.numbers.specs.Marks.{NONE}
 use Rattle.lists.specs.Lists.{All, Without, Distinct}
 use Rattle.lists.proofs.Members.{all-map, all-any}
-use Rattle.links.specs.Chain.{Chain, Walked, cells}
 use Rattle.lists.proofs.Pigeonhole.{pigeon}
+use Rattle.links.specs.Chain.{Chain, Walked, cells}
 
 -- another function that agrees on the members has the same chain
 pub chain-same : (size : ℕ) (n n' : ℕ → ℕ) (f : ℕ) (xs : List ℕ) → All (λ x. n' x ≡ n x) xs → Chain size n f xs → Chain size n' f xs

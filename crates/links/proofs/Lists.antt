@@ -10,7 +10,7 @@ use Rattle.numbers.specs.Marks.{NONE}
 use Rattle.lists.specs.Lists.{All, In, Without, Distinct, final}
 use Rattle.lists.proofs.Members.{all-map, all-both, all-mid, all-in, all-of}
 use Rattle.links.specs.Chain.{cells}
-use Rattle.links.specs.Lent.{Lent, lent, next, prev, Ring, Fits, Put, Kept, Pushed, Unlinked, Moved}
+use Rattle.links.specs.Linked.{next, prev, Ring, Fits, Put, Kept, Pushed, Unlinked, Moved, Linked, linked}
 use Rattle.links.proofs.Functions.{look-end, look-at, look-swap, look-upd, cells-upd}
 use Rattle.links.proofs.Rings.{links-same, links-one, last-is, once, distinct, around, first, remove, push}
 
@@ -32,7 +32,7 @@ put-size t t' i v l = l ∙ length-set t i v
 
 -- ---- what a list's tables say
 
-module _ (t : Lent) (room : length (t .prevs) ≤ NONE) where
+module _ (t : Linked) (room : length (t .prevs) ≤ NONE) where
   -- what a member's link may be
   abbrev Place : ℕ → Type 0
   Place i = (i < length (t .prevs)) ⊎ (i ≡ NONE)
@@ -86,8 +86,8 @@ module _ (t : Lent) (room : length (t .prevs) ≤ NONE) where
         (rw (look-at (cells (t .prevs)) (t .ends .tail) s apart) at (m .2), rw (look-at (cells (t .nexts)) (t .ends .head) s apart) at (m .3))
 
 -- tables that agree at the members, and have the same ends
-pub ring-frame : (t : Lent) (p' n' xs : List ℕ) → length (t .prevs) ≤ NONE → length p' ≡ length (t .prevs) → Ring t xs → All (Kept t (lent p' n' (t .ends))) xs
-    → Ring (lent p' n' (t .ends)) xs
+pub ring-frame : (t : Linked) (p' n' xs : List ℕ) → length (t .prevs) ≤ NONE → length p' ≡ length (t .prevs) → Ring t xs → All (Kept t (linked p' n' (t .ends))) xs
+    → Ring (linked p' n' (t .ends)) xs
 ring-frame t p' n' xs room e h a = record {
   slots = rw e (h .slots);
   links =
@@ -96,8 +96,8 @@ ring-frame t p' n' xs room e h a = record {
       (look-end (cells p') tl ∙ sym (look-end (cells (t .prevs)) tl)) (h .links);
 }
   where
-    t' : Lent
-    t' = lent p' n' (t .ends)
+    t' : Linked
+    t' = linked p' n' (t .ends)
 
     hd : ℕ
     hd = t .ends .head
@@ -114,7 +114,7 @@ ring-frame t p' n' xs room e h a = record {
 
 -- ---- the calls
 
-module _ (t : Lent) (s : ℕ) (pre : Fits (t .prevs) (t .nexts) s) where
+module _ (t : Linked) (s : ℕ) (pre : Fits (t .prevs) (t .nexts) s) where
   s-none : s ≢ NONE
   s-none = let l = pre .slot in let r = pre .room in omega arith
 
@@ -122,8 +122,8 @@ module _ (t : Lent) (s : ℕ) (pre : Fits (t .prevs) (t .nexts) s) where
   none-s q = s-none (sym q)
 
   module _ (prevs' : List ℕ) (tail : ℕ) (p : Put (set (t .prevs) s NONE) (t .ends .tail) (t .ends .head) s prevs' tail) where
-    abbrev pushed-to : Lent
-    pushed-to = lent prevs' (set (t .nexts) s (t .ends .head)) (record { head = s; tail = tail })
+    abbrev pushed-to : Linked
+    pushed-to = linked prevs' (set (t .nexts) s (t .ends .head)) (record { head = s; tail = tail })
 
     size : length prevs' ≡ length (t .prevs)
     size = put-size (t .prevs) prevs' s NONE (p .size)
@@ -153,7 +153,7 @@ module _ (t : Lent) (s : ℕ) (pre : Fits (t .prevs) (t .nexts) s) where
   module _ (prevs' nexts' : List ℕ) (head tail : ℕ)
       (q : Put (t .nexts) (t .ends .head) (getD (t .prevs) s 0) (getD (t .nexts) s 0) nexts' head)
       (p : Put (t .prevs) (t .ends .tail) (getD (t .nexts) s 0) (getD (t .prevs) s 0) prevs' tail) where
-    pub unlinked : Unlinked t s (lent prevs' nexts' (record { head = head; tail = tail }))
+    pub unlinked : Unlinked t s (linked prevs' nexts' (record { head = head; tail = tail }))
     unlinked = record {
       sized = record { prevs-size = p .size; nexts-size = q .size };
       list = λ us vs h.
@@ -171,12 +171,12 @@ module _ (t : Lent) (s : ℕ) (pre : Fits (t .prevs) (t .nexts) s) where
           (p .rest k (away t (pre .room) zs h k (getD (t .nexts) s 0) l w (m .1)), q .rest k (away t (pre .room) zs h k (getD (t .prevs) s 0) l w (m .0)));
     }
 
-  pub fits-still : (t' : Lent) → Unlinked t s t' → Fits (t' .prevs) (t' .nexts) s
+  pub fits-still : (t' : Linked) → Unlinked t s t' → Fits (t' .prevs) (t' .nexts) s
   fits-still t' u =
       let a = u .sized .prevs-size in let b = u .sized .nexts-size in let e = pre .even in let r = pre .room in let l = pre .slot in
       record { even = omega arith; room = omega arith; slot = omega arith }
 
-  pub moved : (t' t″ : Lent) → Unlinked t s t' → Pushed t' s t″ → Moved t s t″
+  pub moved : (t' t″ : Linked) → Unlinked t s t' → Pushed t' s t″ → Moved t s t″
   moved t' t″ u d = record {
     sized = record { prevs-size = d .sized .prevs-size ∙ u .sized .prevs-size; nexts-size = d .sized .nexts-size ∙ u .sized .nexts-size };
     list = λ us vs h. d .list (us ++ vs) (u .list us vs h) (ring-once t (pre .room) us s vs h);

@@ -1,3 +1,3 @@
 pub mod Chain
 pub mod Ring
-pub mod Lent
+pub mod Linked

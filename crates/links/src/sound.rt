@@ -3,7 +3,7 @@
 ghost use Prim.Native.Nat.{_≤_};
 ghost use lib.ListN.{length};
 ghost use Rattle.numbers.specs.Marks.{NONE};
-ghost use Rattle.links.specs.Lent.{lent, Fits, Put, Pushed, Unlinked, Moved};
+ghost use Rattle.links.specs.Linked.{Fits, Put, Pushed, Unlinked, Moved, linked};
 
 // Makes v the link of slot i in t, or the end of the list where i is NONE. Returns the end.
 fn put(t: &mut [u64], end: u64, i: u64, v: u64) -> u64
@@ -26,7 +26,9 @@ pub fn push_front(
     slot: numbers::Slot,
 ) -> crate::Ends
     requires { ⌜ Fits (now prevs) (now nexts) (slot .0) ⌝ }
-    ensures { λ r. ⌜ Pushed (lent (now (prevs .entry)) (now (nexts .entry)) ends) (slot .0) (lent (now (prevs .exit)) (now (nexts .exit)) r) ⌝ }
+    ensures { λ r. ⌜ Pushed (linked
+        (now (prevs .entry)) (now (nexts .entry)) ends) (slot .0) (linked
+        (now (prevs .exit)) (now (nexts .exit)) r) ⌝ }
 {
     let s = slot.0;
     let head = ends.head;
@@ -47,7 +49,9 @@ pub fn unlink(
     slot: numbers::Slot,
 ) -> crate::Ends
     requires { ⌜ Fits (now prevs) (now nexts) (slot .0) ⌝ }
-    ensures { λ r. ⌜ Unlinked (lent (now (prevs .entry)) (now (nexts .entry)) ends) (slot .0) (lent (now (prevs .exit)) (now (nexts .exit)) r) ⌝ }
+    ensures { λ r. ⌜ Unlinked (linked
+        (now (prevs .entry)) (now (nexts .entry)) ends) (slot .0) (linked
+        (now (prevs .exit)) (now (nexts .exit)) r) ⌝ }
 {
     let s = slot.0;
     let p = prevs[s as usize];
@@ -68,7 +72,9 @@ pub fn to_front(
     slot: numbers::Slot,
 ) -> crate::Ends
     requires { ⌜ Fits (now prevs) (now nexts) (slot .0) ⌝ }
-    ensures { λ r. ⌜ Moved (lent (now (prevs .entry)) (now (nexts .entry)) ends) (slot .0) (lent (now (prevs .exit)) (now (nexts .exit)) r) ⌝ }
+    ensures { λ r. ⌜ Moved (linked
+        (now (prevs .entry)) (now (nexts .entry)) ends) (slot .0) (linked
+        (now (prevs .exit)) (now (nexts .exit)) r) ⌝ }
 {
     let without = unlink(prevs, nexts, ends, slot);
     push_front(prevs, nexts, without, slot)

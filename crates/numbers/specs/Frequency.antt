@@ -1,6 +1,6 @@
 -- The levels of a frequency: the first, the ceiling, and how a level changes.
 use mathlib.Core.Bool.{cond}
-use Prim.Native.Nat.{ℕ, _+_, _-_, _/_, _^_, max}
+use Prim.Native.Nat.{ℕ, _+_, _/_, _^_, max, _-_}
 use lib.Dec.{ltb}
 
 abbrev pub FIRST : ℕ

@@ -1,9 +1,9 @@
 // Replays a trace: reads the capacity and the records from standard input, and prints a line for each record. A read that fails ends the
 // input; output that cannot be written ends the program.
-use frequency_tables::State;
+use buckets_tables::State;
 use trace::Line;
 use trace::Word;
-use trace_parts::two_bytes;
+use trace_input::two_bytes;
 
 mod sound;
 

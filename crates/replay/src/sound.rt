@@ -1,16 +1,17 @@
 // The turns of a replay on tables that are known to be sound: a part of the input is read, carried out, and what it prints is written.
 ghost use mathlib.Core.Path.{_≡_};
 ghost use Prim.Native.Nat.{_≤_};
-ghost use Rattle.frequency_tables.specs.Tables.{tables};
-ghost use Rattle.lfu_tables.specs.Tables.{withValues, CacheSound};
+ghost use Rattle.promise.specs.Promise.{Sound};
+ghost use Rattle.cache_tables.specs.Slices.{lent, before, after};
+ghost use Rattle.cache_tables.specs.Lent.{cache};
 ghost use Rattle.trace.specs.Output.{SLOTS};
-ghost use Rattle.trace_parts.specs.Feeding.{Sizes};
-ghost use Rattle.trace_parts.specs.Parts.{Buffers};
-ghost use Rattle.replay.specs.Turns.{Turns, goesOn};
+ghost use Rattle.trace_input.specs.Feeding.{Sizes};
+ghost use Rattle.trace_input.specs.Parts.{PartBuffers};
+ghost use Rattle.replay.specs.Turns.{goesOn, ReplayTurns};
 use crate::Turned;
 use bucket_table::WORDS;
-use frequency_tables::State;
-use trace_parts::PART;
+use buckets_tables::State;
+use trace_input::PART;
 
 // A part that is not full is the last. Nothing more is read where nothing can be written.
 fn goes_on(written: bool, n: usize) -> bool
@@ -38,11 +39,13 @@ fn turn(
     input: &mut [u8],
     out: &mut [u8],
 ) -> Turned
-    requires { ⌜ CacheSound (withValues (tables (now keys) (now freqs) (now epochs) (now prevs) (now nexts) (now arena) (now index) (now buckets) (now spares)) (now values)) state × Buffers (now input) (now out) ⌝ }
-    ensures { λ r. ⌜ Turns (withValues (tables (now (keys .entry)) (now (freqs .entry)) (now (epochs .entry)) (now (prevs .entry)) (now (nexts .entry)) (now (arena .entry)) (now (index .entry)) (now (buckets .entry)) (now (spares .entry))) (now (values .entry))) state (now (input .exit)) (withValues (tables (now (keys .exit)) (now (freqs .exit)) (now (epochs .exit)) (now (prevs .exit)) (now (nexts .exit)) (now (arena .exit)) (now (index .exit)) (now (buckets .exit)) (now (spares .exit))) (now (values .exit))) (now (out .exit)) r ⌝ }
+    requires { ⌜ Sound cache (lent keys freqs epochs prevs nexts arena index buckets spares values) state × PartBuffers (now input) (now out) ⌝ }
+    ensures { λ r. ⌜ ReplayTurns
+        (before keys freqs epochs prevs nexts arena index buckets spares values) state (now (input .exit))
+        (after keys freqs epochs prevs nexts arena index buckets spares values) (now (out .exit)) r ⌝ }
 {
     let n = io::read_full(0, &mut input[..PART]);
-    let printed = trace_parts::sound::part(
+    let printed = trace_input::sound::part(
         keys,
         freqs,
         epochs,
@@ -86,9 +89,9 @@ fn run(
     input: &mut [u8],
     out: &mut [u8],
 )
-    requires { ⌜ Sizes (withValues (tables (now keys) (now freqs) (now epochs) (now prevs) (now nexts) (now arena) (now index) (now buckets) (now spares)) (now values)) capacity × Buffers (now input) (now out) ⌝ }
+    requires { ⌜ Sizes (lent keys freqs epochs prevs nexts arena index buckets spares values) capacity × PartBuffers (now input) (now out) ⌝ }
 {
-    let mut after = lfu_whole::sound::make(
+    let mut after = lfu_make::sound::make(
         keys,
         freqs,
         epochs,

@@ -6,8 +6,8 @@ use mathlib.Core.List.{List}
 use Prim.Native.Nat.{ℕ}
 use lib.ListN.{take}
 use Rattle.trace.specs.Output.{output}
-use Rattle.trace_parts.specs.Parts.{Shows}
+use Rattle.trace_input.specs.Parts.{InputShows}
 use Rattle.replay_cases.specs.declared.Case.{Case}
 
 abbrev pub Told : (input out : List ℕ) → Case → Type 0
-Told input out r = r .more ≡ true → Shows (output (take (r .read) input)) out (r .at)
+Told input out r = r .more ≡ true → InputShows (output (take (r .read) input)) out (r .at)

@@ -1,12 +1,12 @@
 // The inputs of a pack, in buffers that are known to have room.
 ghost use mathlib.Core.Path.{_≡_};
 ghost use mathlib.Core.Bool.{false};
-ghost use Rattle.trace_parts.specs.Parts.{Buffers};
+ghost use Rattle.trace_input.specs.Parts.{PartBuffers};
 ghost use Rattle.replay_cases.specs.Cases.{Told};
 use crate::Case;
 use crate::next_length;
 use crate::rule;
-use trace_parts::PART;
+use trace_input::PART;
 
 // No input, or one that is cut.
 fn none() -> Case
@@ -21,7 +21,7 @@ fn none() -> Case
 
 // One input of the pack: what it prints is written.
 fn case(input: &mut [u8], out: &mut [u8]) -> Case
-    requires { ⌜ Buffers (now input) (now out) ⌝ }
+    requires { ⌜ PartBuffers (now input) (now out) ⌝ }
     ensures { λ r. ⌜ Told (now (input .exit)) (now (out .exit)) r ⌝ }
 {
     let n = next_length();
@@ -32,7 +32,7 @@ fn case(input: &mut [u8], out: &mut [u8]) -> Case
     if got < n {
         return none();
     }
-    let at = trace_parts::sound::whole(&input[..], n, out);
+    let at = trace_input::sound::whole(&input[..], n, out);
     let written = io::write_all(1, &out[..at]);
     Case {
         more: rule(written),
@@ -43,7 +43,7 @@ fn case(input: &mut [u8], out: &mut [u8]) -> Case
 
 // All inputs. What a read gives is not known, so the loop counts its turns down, from a number that no run uses up.
 pub fn run(input: &mut [u8], out: &mut [u8])
-    requires { ⌜ Buffers (now input) (now out) ⌝ }
+    requires { ⌜ PartBuffers (now input) (now out) ⌝ }
 {
     let mut turns: u64 = u64::MAX;
     let mut more = true;

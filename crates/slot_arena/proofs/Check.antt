@@ -11,12 +11,12 @@ use borrow.Author.Tests.{eq-eqb, ne-eqb, eqb-true}
 use Rattle.numbers.specs.Marks.{LIMIT, NONE}
 use Rattle.lists.specs.Lists.{All, Without, final}
 use Rattle.lists.proofs.Members.{all-map}
+use Rattle.lists.proofs.Pigeonhole.{pigeon-others, pigeon-cover, count-le}
 use Rattle.links.specs.Chain.{Chain, cells}
 use Rattle.links.proofs.Chains.{chain-distinct, chain-below, chain-unmarked, chain-length}
-use Rattle.lists.proofs.Pigeonhole.{pigeon-others, pigeon-cover, count-le}
 use Rattle.slot_arena.specs.declared.Order.{Order}
 use Rattle.slot_arena.specs.declared.Reached.{Reached}
-use Rattle.slot_arena.specs.Arena.{USED, Holds, Sound}
+use Rattle.slot_arena.specs.Arena.{USED, ArenaHolds, ArenaSound}
 use Rattle.slot_arena.specs.Check.{marked, usedIn, Walks}
 
 module _ (t : List ℕ) (f : ℕ) (fs : List ℕ) (limit : length t ≤ LIMIT) (chain : Chain (length t) (cells t) f fs) where
@@ -39,13 +39,13 @@ module _ (t : List ℕ) (f : ℕ) (fs : List ℕ) (limit : length t ≤ LIMIT) (
 
 module _ (t : List ℕ) (o : Order) (r : Reached) (w : Walks t (o .first) r) where
   -- the walk of a sound table ends, after all free slots
-  ended : (free : List ℕ) → Holds t o free → (r .at ≡ NONE) × (free ≡ w .passed)
+  ended : (free : List ℕ) → ArenaHolds t o free → (r .at ≡ NONE) × (free ≡ w .passed)
   ended free h = w .walked .whole free (h .chain)
 
-  pub not-ended : r .at ≢ NONE → Sound t o → ⊥
+  pub not-ended : r .at ≢ NONE → ArenaSound t o → ⊥
   not-ended d s = d (ended (s .0) (s .1) .0)
 
-  pub other-last : r .last ≢ o .last → Sound t o → ⊥
+  pub other-last : r .last ≢ o .last → ArenaSound t o → ⊥
   other-last d s = d (sym (s .1 .last ∙ ap (final NONE) (ended (s .0) (s .1) .1) ∙ w .final-one))
 
   -- the two counts are small
@@ -54,7 +54,7 @@ module _ (t : List ℕ) (o : Order) (r : Reached) (w : Walks t (o .first) r) whe
       omega (arith, w .many, chain-length (length t) (cells t) limit (o .first) (w .passed) (w .walked .ends end), count-le (marked t) (length t))
 
   -- what is left to test
-  pub counts : (used : ℕ) → length t ≤ LIMIT → r .at ≡ NONE → r .last ≡ o .last → used ≡ usedIn t → (eqb (used + r .steps) (length t) ≡ true) ↔ Sound t o
+  pub counts : (used : ℕ) → length t ≤ LIMIT → r .at ≡ NONE → r .last ≡ o .last → used ≡ usedIn t → (eqb (used + r .steps) (length t) ≡ true) ↔ ArenaSound t o
   counts used limit end last n = (
     λ q.
         let chain = w .walked .ends end in (

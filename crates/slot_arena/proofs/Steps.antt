@@ -2,7 +2,7 @@
 use mathlib.Core.Path.{_≡_, refl, sym, ap, _∙_, subst}
 use mathlib.Core.Logic.{_≢_}
 use mathlib.Core.List.{List, [], _∷_}
-use Prim.Native.Nat.{ℕ, zero, suc, _+_, _-_, _≤_, _<_}
+use Prim.Native.Nat.{ℕ, zero, suc, _+_, _≤_, _<_, _-_}
 use native.Mathlib.Omega.{arith}
 use lib.ListN.{length, getD, set, length-set}
 use lib.Seq.{getD-set-same, getD-set-other, lt-length-set}
@@ -14,7 +14,7 @@ use Rattle.links.specs.Chain.{Chain, cells}
 use Rattle.links.proofs.Chains.{chain-set}
 use Rattle.slot_arena.specs.declared.Order.{Order}
 use Rattle.slot_arena.specs.declared.Taken.{Taken}
-use Rattle.slot_arena.specs.Arena.{USED, Holds, Filled, Takes, Releases}
+use Rattle.slot_arena.specs.Arena.{USED, Filled, Takes, Releases, ArenaHolds}
 use Rattle.slot_arena.specs.Fill.{filledCell}
 use Rattle.slot_arena.proofs.Free.{holds-distinct, first-none, marked-without}
 
@@ -25,23 +25,23 @@ chain-set-sized t s v f xs w p = rw length-set (chain-set (length t) t s v f xs 
 -- ---- take
 
 -- the last slot of an order after its first was taken: none if the link was NONE, else as before
-pub take-last : (t : List ℕ) (o : Order) (s : ℕ) (rest : List ℕ) → Holds t o (s ∷ rest) → getD t (o .first) 0 ≢ NONE → o .last ≡ final NONE rest
+pub take-last : (t : List ℕ) (o : Order) (s : ℕ) (rest : List ℕ) → ArenaHolds t o (s ∷ rest) → getD t (o .first) 0 ≢ NONE → o .last ≡ final NONE rest
 take-last t o s [] h d = absurd (d (ap (cells t) (h .chain .0) ∙ h .chain .2))
 take-last t o s (x ∷ rest) h d = h .last
 
-pub take-alone : (t : List ℕ) (o : Order) (s : ℕ) (rest : List ℕ) → Holds t o (s ∷ rest) → getD t (o .first) 0 ≡ NONE → NONE ≡ final NONE rest
+pub take-alone : (t : List ℕ) (o : Order) (s : ℕ) (rest : List ℕ) → ArenaHolds t o (s ∷ rest) → getD t (o .first) 0 ≡ NONE → NONE ≡ final NONE rest
 take-alone t o s [] h e = refl
 take-alone t o s (x ∷ rest) h e = absurd (omega (arith, h .limit, h .chain .2 .0, h .chain .2 .1, ap (cells t) (h .chain .0)))
 
 pub taken : (t : List ℕ) (o : Order) (r : Taken) → r .slot .0 ≡ o .first → r .order .first ≡ getD t (o .first) 0
-    → ((s : ℕ) (rest : List ℕ) → Holds t o (s ∷ rest) → r .order .last ≡ final NONE rest) → Takes t o (set t (o .first) USED) r
+    → ((s : ℕ) (rest : List ℕ) → ArenaHolds t o (s ∷ rest) → r .order .last ≡ final NONE rest) → Takes t o (set t (o .first) USED) r
 taken t o r slot first last = record {
   size = length-set t (o .first) USED;
   slot = slot;
-  holds = λ s rest h. subst (λ (k : ℕ). Holds (set t k USED) (r .order) rest) (sym (h .chain .0)) (holds s rest h);
+  holds = λ s rest h. subst (λ (k : ℕ). ArenaHolds (set t k USED) (r .order) rest) (sym (h .chain .0)) (holds s rest h);
 }
   where
-    holds : (s : ℕ) (rest : List ℕ) → Holds t o (s ∷ rest) → Holds (set t s USED) (r .order) rest
+    holds : (s : ℕ) (rest : List ℕ) → ArenaHolds t o (s ∷ rest) → ArenaHolds (set t s USED) (r .order) rest
     holds s rest h = record {
       limit = simp length-set (h .limit);
       chain =
@@ -57,14 +57,14 @@ taken t o r slot first last = record {
 -- ---- release
 
 -- the last slot of an order with s in front: s if there was none, else as before
-pub release-alone : (t : List ℕ) (o : Order) (s : ℕ) (free : List ℕ) → Holds t o free → o .first ≡ NONE → s ≡ final s free
+pub release-alone : (t : List ℕ) (o : Order) (s : ℕ) (free : List ℕ) → ArenaHolds t o free → o .first ≡ NONE → s ≡ final s free
 release-alone t o s free h e = ap (final s) (sym (first-none t o free h .1 e))
 
-pub release-last : (t : List ℕ) (o : Order) (s : ℕ) (free : List ℕ) → Holds t o free → o .first ≢ NONE → o .last ≡ final s free
+pub release-last : (t : List ℕ) (o : Order) (s : ℕ) (free : List ℕ) → ArenaHolds t o free → o .first ≢ NONE → o .last ≡ final s free
 release-last t o s [] h d = absurd (d (h .chain))
 release-last t o s (x ∷ free) h d = h .last
 
-pub released : (t : List ℕ) (o : Order) (s : ℕ) (o' : Order) → o' .first ≡ s → ((free : List ℕ) → Holds t o free → o' .last ≡ final s free)
+pub released : (t : List ℕ) (o : Order) (s : ℕ) (o' : Order) → o' .first ≡ s → ((free : List ℕ) → ArenaHolds t o free → o' .last ≡ final s free)
     → Releases t o s (set t s (o .first)) o'
 released t o s o' first last = record {
   size = length-set t s (o .first);

@@ -2,7 +2,7 @@
 use mathlib.Core.Path.{_≡_, sym, ap, _∙_, subst}
 use mathlib.Core.Logic.{_≢_, _↔_}
 use mathlib.Core.List.{List, [], _∷_, _++_}
-use Prim.Native.Nat.{ℕ, _+_, _-_, _≤_, _<_}
+use Prim.Native.Nat.{ℕ, _+_, _≤_, _<_, _-_}
 use native.Mathlib.Omega.{arith}
 use lib.ListN.{length, length-append}
 use Rattle.lists.specs.Lists.{All, In, Without, Distinct, from, times}
@@ -12,12 +12,12 @@ use Rattle.lists.proofs.Totals.{length-total, total-add, total-ones, total-tigh
 use Rattle.lists.proofs.Pigeonhole.{distinct-times}
 use Rattle.slot_arena.specs.declared.Order.{Order}
 use Rattle.slot_arena.specs.declared.Taken.{Taken}
-use Rattle.slot_arena.specs.Arena.{InUse, Holds, Uses, Filled, Takes, Releases}
+use Rattle.slot_arena.specs.Arena.{InUse, Uses, Filled, Takes, Releases, ArenaHolds}
 use Rattle.slot_arena.proofs.Free.{holds-one, holds-distinct, holds-below, first-slot, marked-without, in-use-exact}
 
 -- ---- each slot once
 
-module _ (t : List ℕ) (o : Order) (free rs : List ℕ) (h : Holds t o free) (u : Uses t o rs) where
+module _ (t : List ℕ) (o : Order) (free rs : List ℕ) (h : ArenaHolds t o free) (u : Uses t o rs) where
   uses-length : length free + length rs ≡ length t
   uses-length = omega (arith, ap length (holds-one t o free (u .sound .0) h (u .sound .1)), u .many)
 
@@ -66,7 +66,7 @@ uses-exact t o rs u d x =
 pub uses-free : (t : List ℕ) (o : Order) (rs : List ℕ) → Uses t o rs → length rs < length t → o .first < length t
 uses-free t o rs u l = go (u .sound .0) (u .sound .1) (u .many)
   where
-    go : (free : List ℕ) → Holds t o free → length free + length rs ≡ length t → o .first < length t
+    go : (free : List ℕ) → ArenaHolds t o free → length free + length rs ≡ length t → o .first < length t
     go [] h e = absurd (omega arith)
     go (s ∷ free) h e = first-slot t o s free h .1
 
@@ -75,7 +75,7 @@ pub uses-take : (t : List ℕ) (o : Order) (t' : List ℕ) (r : Taken) (us vs : 
     → Uses t' (r .order) (us ++ r .slot .0 ∷ vs) × Without (r .slot .0) (us ++ vs)
 uses-take t o t' r us vs k u l = go (u .sound .0) (u .sound .1) (u .many)
   where
-    go : (free : List ℕ) → Holds t o free → length free + length (us ++ vs) ≡ length t → Uses t' (r .order) (us ++ r .slot .0 ∷ vs) × Without (r .slot .0) (us ++ vs)
+    go : (free : List ℕ) → ArenaHolds t o free → length free + length (us ++ vs) ≡ length t → Uses t' (r .order) (us ++ r .slot .0 ∷ vs) × Without (r .slot .0) (us ++ vs)
     go [] h e = absurd (omega arith)
     go (x ∷ rest) h e =
         let h' = k .holds x rest h in

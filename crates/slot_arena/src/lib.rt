@@ -5,7 +5,7 @@ ghost use mathlib.Core.Logic.{_↔_};
 ghost use Prim.Native.Nat.{_≤_};
 ghost use lib.ListN.{length};
 ghost use Rattle.numbers.specs.Marks.{LIMIT};
-ghost use Rattle.slot_arena.specs.Arena.{Sound, InUse};
+ghost use Rattle.slot_arena.specs.Arena.{InUse, ArenaSound};
 ghost use Rattle.slot_arena.specs.Check.{Walks, usedIn};
 use numbers::LIMIT;
 use numbers::NONE;
@@ -48,7 +48,7 @@ pub fn in_use(arena: &[u64], slot: Slot) -> bool
 
 // Whether the table and the order are those of some free slots, with all others in use.
 pub fn is_sound(arena: &[u64], order: Order) -> bool
-    ensures { λ r. ⌜ (r ≡ true) ↔ Sound (now (arena .entry)) order ⌝ }
+    ensures { λ r. ⌜ (r ≡ true) ↔ ArenaSound (now (arena .entry)) order ⌝ }
 {
     let capacity = arena.len() as u64;
     if LIMIT < capacity {

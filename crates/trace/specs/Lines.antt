@@ -5,9 +5,9 @@ use mathlib.Core.Option.{Option, none, some}
 use mathlib.Core.List.{List, [], _∷_, _++_}
 use Prim.Native.Nat.{ℕ, zero, suc, _+_, _/_}
 use lib.Dec.{eqb, ltb}
-use Rattle.io.specs.Digits.{digits}
 use Rattle.ledger.specs.Cache.{Cache, Insertion, fresh, freshOut, old, full, Lookup, hit, miss, Least, least, nothing}
 use Rattle.ledger.specs.History.{CacheCall, Insert, Get, Peek, Remove, Reset, PeekLfu, Evict, Clear, Event, inserted, got, peeked, removed, reset, peekedLfu, evicted, cleared, measured, does}
+use Rattle.io.specs.Digits.{digits}
 use Rattle.trace.specs.declared.Word.{Word}
 use Rattle.trace.specs.declared.Word.the-variants as word
 use Rattle.trace.specs.declared.Line.{Line}

@@ -1,7 +1,7 @@
 -- The arena's check, the size, and the walk with as many records as the arena has slots in use.
 use borrow.Author.Tests.{not-true, not-false}
-use Rattle.lists.proofs.Tests.{says-no, said-no}
 use borrow.Author.Needs.{needs}
+use Rattle.lists.proofs.Tests.{says-no, said-no}
 use Rattle.bucket_table.proofs.is_sound.Statement.{statement}
 use Rattle.bucket_table.proofs.is_sound.Tie as tie
 

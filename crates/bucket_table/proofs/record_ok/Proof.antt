@@ -2,9 +2,9 @@
 use mathlib.Core.Path.{_∙_}
 use native.Mathlib.Omega.{arith}
 use borrow.Author.Tests.{not-true, not-false}
+use borrow.Author.Needs.{needs}
 use Rattle.lists.proofs.Tests.{says-no, said-no}
 use Rattle.bucket_table.proofs.Checks as laws
-use borrow.Author.Needs.{needs}
 use Rattle.bucket_table.proofs.record_ok.Statement.{statement}
 use Rattle.bucket_table.proofs.record_ok.Tie as tie
 

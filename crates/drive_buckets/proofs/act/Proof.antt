@@ -1,11 +1,10 @@
 -- The operation names the call of its arm; where it names none of them, it is not about one key, or it is BAD.
 use mathlib.Core.Path.{refl}
 use Prim.Native.Nat.{ℕ}
-use Rattle.frequency_reads.specs.Replies.{levelReply, leastReply}
-use Rattle.frequency_calls.specs.Replies.{plainReply}
+use borrow.Author.Needs.{needs}
+use Rattle.answers.specs.Replies.{levelReply, leastReply, plainReply}
 use Rattle.drive_buckets.specs.Calls.{bucketCall}
 use Rattle.drive_buckets.proofs.Driving.{made, sent, no-key}
-use borrow.Author.Needs.{needs}
 use Rattle.drive_buckets.proofs.act.Statement.{statement}
 use Rattle.drive_buckets.proofs.act.Tie as tie
 

@@ -1,7 +1,7 @@
 -- Each arm is the call of its number; the last one asks.
-use Rattle.drive_cache.proofs.Driving.{called, bound, acted, acted-else}
-use Rattle.ledger.specs.History.{Get, Remove, Reset, Evict, Clear}
 use mathlib.Core.Path.{refl}
+use Rattle.ledger.specs.History.{Get, Remove, Reset, Evict, Clear}
+use Rattle.drive_cache.proofs.Driving.{called, bound, acted, acted-else}
 use Rattle.drive_cache.proofs.act.Statement.{statement}
 use Rattle.drive_cache.proofs.act.Tie as tie
 

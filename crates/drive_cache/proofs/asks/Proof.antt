@@ -1,7 +1,7 @@
 -- Each arm is the query of its number.
-use Rattle.drive_cache.proofs.Driving.{called, asked, asked-none}
-use Rattle.ledger.specs.History.{Peek, PeekLfu, Len}
 use mathlib.Core.Path.{refl}
+use Rattle.ledger.specs.History.{Peek, PeekLfu, Len}
+use Rattle.drive_cache.proofs.Driving.{called, asked, asked-none}
 use Rattle.drive_cache.proofs.asks.Statement.{statement}
 use Rattle.drive_cache.proofs.asks.Tie as tie
 

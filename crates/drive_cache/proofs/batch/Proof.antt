@@ -1,7 +1,7 @@
 -- Each arm is the batch of its number; slices of one length are one list of pairs.
-use Rattle.drive_cache.proofs.Driving.{batched, acted-all, acted-none}
 use denote.Ref.{now}
 use mathlib.Core.Path.{refl}
+use Rattle.drive_cache.proofs.Driving.{batched, acted-all, acted-none}
 use Rattle.drive_cache.proofs.batch.Statement.{statement}
 use Rattle.drive_cache.proofs.batch.Tie as tie
 

@@ -1,7 +1,7 @@
 -- Each arm stores into the table of its number.
 use mathlib.Core.Path.{refl}
-use Rattle.drive_damage.proofs.Damaging.{none-of-ten, damaged, damaged-none}
 use borrow.Author.Needs.{needs}
+use Rattle.drive_damage.proofs.Damaging.{none-of-ten, damaged, damaged-none}
 use Rattle.drive_damage.proofs.store.Statement.{statement}
 use Rattle.drive_damage.proofs.store.Tie as tie
 

@@ -1,10 +1,10 @@
 -- By the answer's case; yes is 1 and no is 0.
-use Rattle.frequency_reads.specs.Replies.{askedReply}
-use Rattle.frequency_reads.specs.declared.Asked.{Asked}
-use Rattle.drive_lines.specs.Lines.{replyText}
-use Rattle.drive_lines.proofs.Spelling.{asked-told}
 use mathlib.Core.Path.{sym, ap, _∙_}
 use borrow.Author.Needs.{needs}
+use Rattle.answers.specs.declared.Asked.{Asked}
+use Rattle.answers.specs.Replies.{askedReply}
+use Rattle.drive_lines.specs.Lines.{replyText}
+use Rattle.drive_lines.proofs.Spelling.{asked-told}
 use Rattle.drive_lines.proofs.asked.Statement.{statement}
 use Rattle.drive_lines.proofs.asked.Tie as tie
 

@@ -1,9 +1,9 @@
 -- By the answer's case.
-use Rattle.frequency_reads.specs.Replies.{countReply}
-use Rattle.drive_lines.specs.Lines.{replyText}
-use Rattle.frequency_reads.specs.declared.Count.{Count}
 use mathlib.Core.Path.{sym, ap}
 use borrow.Author.Needs.{needs}
+use Rattle.answers.specs.declared.Count.{Count}
+use Rattle.answers.specs.Replies.{countReply}
+use Rattle.drive_lines.specs.Lines.{replyText}
 use Rattle.drive_lines.proofs.count.Statement.{statement}
 use Rattle.drive_lines.proofs.count.Tie as tie
 

@@ -1,9 +1,9 @@
 -- By the answer's case.
-use Rattle.frequency_reads.specs.Replies.{epochReply}
-use Rattle.drive_lines.specs.Lines.{replyText}
-use Rattle.frequency_reads.specs.declared.Epoch.{Epoch}
 use mathlib.Core.Path.{sym, ap}
 use borrow.Author.Needs.{needs}
+use Rattle.answers.specs.declared.Epoch.{Epoch}
+use Rattle.answers.specs.Replies.{epochReply}
+use Rattle.drive_lines.specs.Lines.{replyText}
 use Rattle.drive_lines.proofs.epoch.Statement.{statement}
 use Rattle.drive_lines.proofs.epoch.Tie as tie
 

@@ -1,9 +1,9 @@
 -- By the answer's case.
-use Rattle.frequency_reads.specs.Replies.{leastReply}
-use Rattle.drive_lines.specs.Lines.{replyText}
-use Rattle.frequency_reads.specs.declared.Least.{Least}
 use mathlib.Core.Path.{sym, ap}
 use borrow.Author.Needs.{needs}
+use Rattle.answers.specs.declared.Least.{Least}
+use Rattle.answers.specs.Replies.{leastReply}
+use Rattle.drive_lines.specs.Lines.{replyText}
 use Rattle.drive_lines.proofs.least.Statement.{statement}
 use Rattle.drive_lines.proofs.least.Tie as tie
 

@@ -1,9 +1,9 @@
 -- By the answer's case.
-use Rattle.frequency_reads.specs.Replies.{levelReply}
-use Rattle.drive_lines.specs.Lines.{replyText}
-use Rattle.frequency_reads.specs.declared.Level.{Level}
 use mathlib.Core.Path.{sym, ap}
 use borrow.Author.Needs.{needs}
+use Rattle.answers.specs.declared.Level.{Level}
+use Rattle.answers.specs.Replies.{levelReply}
+use Rattle.drive_lines.specs.Lines.{replyText}
 use Rattle.drive_lines.proofs.level.Statement.{statement}
 use Rattle.drive_lines.proofs.level.Tie as tie
 

@@ -2,8 +2,8 @@
 use mathlib.Core.Path.{refl}
 use borrow.Author.Needs.{needs}
 use Rattle.ledger.specs.Calls.{calls, Insert}
-use Rattle.frequency_calls.proofs.Plain.{plain-refused}
-use Rattle.frequency_tables.proofs.Public as public
+use Rattle.buckets_tables.proofs.Public as public
+use Rattle.buckets_calls.proofs.Plain.{plain-refused}
 use Rattle.frequency_buckets.proofs.insert.Statement.{statement}
 use Rattle.frequency_buckets.proofs.insert.Tie as tie
 

@@ -2,7 +2,7 @@
 use mathlib.Core.Path.{refl}
 use borrow.Author.Needs.{needs}
 use Rattle.ledger.specs.Calls.{calls, PopMin}
-use Rattle.frequency_tables.proofs.Public as public
+use Rattle.buckets_tables.proofs.Public as public
 use Rattle.frequency_buckets.proofs.pop_min.Statement.{statement}
 use Rattle.frequency_buckets.proofs.pop_min.Tie as tie
 

@@ -3,7 +3,7 @@ use mathlib.Core.Path.{refl}
 use borrow.Author.Needs.{needs}
 use Rattle.ledger.specs.Calls.{calls, Touch}
 use Rattle.ledger.specs.Buckets.{touch}
-use Rattle.frequency_tables.proofs.Public as public
+use Rattle.buckets_tables.proofs.Public as public
 use Rattle.frequency_buckets.proofs.touch.Statement.{statement}
 use Rattle.frequency_buckets.proofs.touch.Tie as tie
 

@@ -2,8 +2,8 @@
 use mathlib.Core.Path.{refl}
 use borrow.Author.Needs.{needs}
 use Rattle.ledger.specs.Calls.{TouchCapped}
+use Rattle.buckets_tables.proofs.Public as public
 use Rattle.frequency_buckets.proofs.Capped.{capped}
-use Rattle.frequency_tables.proofs.Public as public
 use Rattle.frequency_buckets.proofs.touch_capped.Statement.{statement}
 use Rattle.frequency_buckets.proofs.touch_capped.Tie as tie
 

@@ -1,15 +1,14 @@
 -- The slots passed are counted.
 use mathlib.Core.Path.{_≡_, refl, sym, ap, _∙_}
-use Prim.Native.Nat.{ℕ, _+_}
+use Prim.Native.Nat.{ℕ, _+_, _≤_, _-_}
 use denote.Ref.{now}
-use Rattle.levels.proofs.Checks as laws
 use native.Mathlib.Omega.{arith}
 use borrow.Author.Needs.{needs}
-use Prim.Native.Nat.{_≤_, _-_}
 use mathlib.Core.Logic.{⊎-elim}
 use lib.ListN.{length}
 use Rattle.lists.specs.Marks.{count}
 use Rattle.lists.proofs.Pigeonhole.{count-le}
+use Rattle.levels.proofs.Checks as laws
 use Rattle.levels.specs.Check.{taken}
 use Rattle.levels.proofs.count_bound.Statement.{statement}
 use Rattle.levels.proofs.count_bound.Tie as tie

@@ -1,13 +1,13 @@
 -- All slots passed are clean.
 use native.Mathlib.Omega.{arith}
 use borrow.Author.Needs.{needs}
-use Rattle.lists.proofs.Tests.{says-no, said-no}
 use borrow.Author.Tests.{not-true, not-false}
 use Prim.Native.Nat.{_≤_, _-_}
 use lib.ListN.{length}
-use Rattle.levels.specs.Check.{Clean}
 use borrow.Author.Count.{below-none, below-more}
 use mathlib.Core.Path.{refl}
+use Rattle.lists.proofs.Tests.{says-no, said-no}
+use Rattle.levels.specs.Check.{Clean}
 use Rattle.levels.proofs.is_clean.Statement.{statement}
 use Rattle.levels.proofs.is_clean.Tie as tie
 

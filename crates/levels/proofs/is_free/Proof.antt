@@ -1,9 +1,9 @@
 -- The cell is compared, if there is one.
 use denote.Ref.{now}
-use Rattle.levels.proofs.Answers as laws
-use Rattle.lists.proofs.Tests.{says-no}
 use native.Mathlib.Omega.{arith}
 use borrow.Author.Needs.{needs}
+use Rattle.lists.proofs.Tests.{says-no}
+use Rattle.levels.proofs.Answers as laws
 use Rattle.levels.proofs.is_free.Statement.{statement}
 use Rattle.levels.proofs.is_free.Tie as tie
 

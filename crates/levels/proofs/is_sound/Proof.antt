@@ -1,10 +1,10 @@
 -- The sizes, the records, the marks, and the walk that meets as many slots as are not marked free.
 use denote.Ref.{now}
-use Rattle.levels.proofs.Checks as laws
 use native.Mathlib.Omega.{arith}
-use Rattle.lists.proofs.Tests.{says-no, said-no}
 use borrow.Author.Tests.{not-true, not-false}
 use borrow.Author.Needs.{needs}
+use Rattle.lists.proofs.Tests.{says-no, said-no}
+use Rattle.levels.proofs.Checks as laws
 use Rattle.levels.proofs.is_sound.Statement.{statement}
 use Rattle.levels.proofs.is_sound.Tie as tie
 

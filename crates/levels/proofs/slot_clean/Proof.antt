@@ -1,9 +1,9 @@
 -- One test for each cell of a slot that is marked free.
-use Rattle.levels.proofs.Checks as laws
 use denote.Ref.{now}
-use Rattle.lists.proofs.Tests.{says-no}
 use mathlib.Core.Path.{refl}
 use borrow.Author.Needs.{needs}
+use Rattle.lists.proofs.Tests.{says-no}
+use Rattle.levels.proofs.Checks as laws
 use Rattle.levels.proofs.slot_clean.Statement.{statement}
 use Rattle.levels.proofs.slot_clean.Tie as tie
 

@@ -1,8 +1,8 @@
 -- One test for each part of what is asked.
-use Rattle.levels.proofs.Walks as laws
 use native.Mathlib.Omega.{arith}
-use Rattle.lists.proofs.Tests.{says-no}
 use borrow.Author.Needs.{needs}
+use Rattle.lists.proofs.Tests.{says-no}
+use Rattle.levels.proofs.Walks as laws
 use Rattle.levels.proofs.slot_ok.Statement.{statement}
 use Rattle.levels.proofs.slot_ok.Tie as tie
 

@@ -1,7 +1,7 @@
 -- The lines passed are the beginning of all lines; the walk ends since the frequencies rise.
-use Rattle.levels.proofs.Checks as laws
 use borrow.Author.Tests.{not-true, not-false}
 use Rattle.bucket_table.proofs.Places.{rise, next-in, rise-less}
+use Rattle.levels.proofs.Checks as laws
 use Rattle.levels.proofs.walk_levels.Statement.{statement}
 use Rattle.levels.proofs.walk_levels.Tie as tie
 

@@ -1,9 +1,9 @@
 -- The slots passed are the beginning of the list, and each was tested; `n` counts down.
-use Rattle.levels.proofs.Walks as laws
 use native.Mathlib.Omega.{arith}
 use borrow.Author.Needs.{needs}
-use Rattle.lists.proofs.Tests.{said-no}
 use borrow.Author.Tests.{not-true, not-false}
+use Rattle.lists.proofs.Tests.{said-no}
+use Rattle.levels.proofs.Walks as laws
 use Rattle.levels.proofs.walk_list.Statement.{statement}
 use Rattle.levels.proofs.walk_list.Tie as tie
 

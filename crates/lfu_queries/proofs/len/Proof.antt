@@ -1,8 +1,8 @@
 -- Checked, then told by the state.
 use mathlib.Core.Path.{refl}
 use borrow.Author.Needs.{needs}
-use Rattle.lfu_tables.proofs.Public as public
 use Rattle.ledger.proofs.CacheRefusals.{lenAsks}
+use Rattle.cache_tables.proofs.Public as public
 use Rattle.lfu_queries.proofs.Asking as asking
 use Rattle.lfu_queries.proofs.len.Statement.{statement}
 use Rattle.lfu_queries.proofs.len.Tie as tie

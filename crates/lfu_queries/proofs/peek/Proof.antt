@@ -1,8 +1,8 @@
 -- Checked, then told by the key's slot.
 use mathlib.Core.Path.{refl}
 use borrow.Author.Needs.{needs}
-use Rattle.lfu_tables.proofs.Public as public
 use Rattle.ledger.proofs.CacheRefusals.{peekAsks}
+use Rattle.cache_tables.proofs.Public as public
 use Rattle.lfu_queries.proofs.Asking as asking
 use Rattle.lfu_queries.proofs.peek.Statement.{statement}
 use Rattle.lfu_queries.proofs.peek.Tie as tie

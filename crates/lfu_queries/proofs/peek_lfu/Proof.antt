@@ -1,8 +1,8 @@
 -- Checked, then told by the lowest list.
 use mathlib.Core.Path.{refl}
 use borrow.Author.Needs.{needs}
-use Rattle.lfu_tables.proofs.Public as public
 use Rattle.ledger.proofs.CacheRefusals.{peekLfuAsks}
+use Rattle.cache_tables.proofs.Public as public
 use Rattle.lfu_queries.proofs.peek_lfu.Statement.{statement}
 use Rattle.lfu_queries.proofs.peek_lfu.Tie as tie
 

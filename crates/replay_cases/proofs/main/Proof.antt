@@ -1,6 +1,6 @@
 -- The buffers are large.
-use Rattle.trace_parts.proofs.Sizes.{large-buffers}
 use borrow.Author.Needs.{needs}
+use Rattle.trace_input.proofs.Sizes.{large-buffers}
 use Rattle.replay_cases.proofs.main.Statement.{statement}
 use Rattle.replay_cases.proofs.main.Tie as tie
 

@@ -1,8 +1,8 @@
 -- The record above `at` has the frequency, or a new one is made.
 use denote.Ref.{now}
+use borrow.Author.Needs.{needs}
 use Rattle.lists.proofs.Tests.{said-no}
 use Rattle.bucket_table.proofs.Places as laws
-use borrow.Author.Needs.{needs}
 use Rattle.bucket_table.proofs.sound.ensure.Statement.{statement}
 use Rattle.bucket_table.proofs.sound.ensure.Tie as tie
 

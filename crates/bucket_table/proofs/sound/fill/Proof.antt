@@ -1,6 +1,6 @@
 -- The five stores, one word each.
-use Rattle.bucket_table.proofs.Words.{filled}
 use borrow.Author.Needs.{needs}
+use Rattle.bucket_table.proofs.Words.{filled}
 use Rattle.bucket_table.proofs.sound.fill.Statement.{statement}
 use Rattle.bucket_table.proofs.sound.fill.Tie as tie
 

@@ -1,6 +1,6 @@
 -- The store is inside the table, or the end changes, or there is no such record.
-use Rattle.bucket_table.proofs.Words.{link-in, link-out, link-past}
 use borrow.Author.Needs.{needs}
+use Rattle.bucket_table.proofs.Words.{link-in, link-out, link-past}
 use Rattle.bucket_table.proofs.sound.link.Statement.{statement}
 use Rattle.bucket_table.proofs.sound.link.Tie as tie
 

@@ -1,6 +1,6 @@
 -- The ring's law for a record that comes in after `at`, and the arena's for one that is taken.
-use Rattle.bucket_table.proofs.Steps as laws
 use borrow.Author.Needs.{needs}
+use Rattle.bucket_table.proofs.Steps as laws
 use Rattle.bucket_table.proofs.sound.make.Statement.{statement}
 use Rattle.bucket_table.proofs.sound.make.Tie as tie
 

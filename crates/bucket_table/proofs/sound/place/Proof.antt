@@ -1,10 +1,10 @@
 -- All rows passed are below the frequency; it ends since the frequencies rise.
 use denote.Ref.{now}
 use native.Mathlib.Omega.{arith}
-use Rattle.bucket_table.proofs.Places as laws
-use Rattle.bucket_table.specs.declared.Buckets.{Buckets}
 use mathlib.Core.Path.{_≡_, refl}
 use mathlib.Core.List.{[]}
+use Rattle.bucket_table.proofs.Places as laws
+use Rattle.bucket_table.specs.declared.Buckets.{Buckets}
 use Rattle.bucket_table.proofs.sound.place.Statement.{statement}
 use Rattle.bucket_table.proofs.sound.place.Tie as tie
 

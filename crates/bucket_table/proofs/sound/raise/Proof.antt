@@ -1,6 +1,6 @@
 -- The row's frequency changes, and it stays between its neighbours.
-use Rattle.bucket_table.proofs.Steps.{raised-to}
 use borrow.Author.Needs.{needs}
+use Rattle.bucket_table.proofs.Steps.{raised-to}
 use Rattle.bucket_table.proofs.sound.raise.Statement.{statement}
 use Rattle.bucket_table.proofs.sound.raise.Tie as tie
 

@@ -1,6 +1,6 @@
 -- The ring's law for a record that is taken out, and the arena's for one that is released.
-use Rattle.bucket_table.proofs.Steps.{drops}
 use borrow.Author.Needs.{needs}
+use Rattle.bucket_table.proofs.Steps.{drops}
 use Rattle.bucket_table.proofs.sound.remove.Statement.{statement}
 use Rattle.bucket_table.proofs.sound.remove.Tie as tie
 

@@ -1,6 +1,6 @@
 -- A filled arena has no slot in use, and no record is linked.
-use Rattle.bucket_table.proofs.Steps.{resets}
 use borrow.Author.Needs.{needs}
+use Rattle.bucket_table.proofs.Steps.{resets}
 use Rattle.bucket_table.proofs.sound.reset.Statement.{statement}
 use Rattle.bucket_table.proofs.sound.reset.Tie as tie
 

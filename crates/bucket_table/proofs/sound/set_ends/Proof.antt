@@ -1,6 +1,6 @@
 -- The row's ends change, and nothing else of the rows.
-use Rattle.bucket_table.proofs.Steps.{ends-set}
 use borrow.Author.Needs.{needs}
+use Rattle.bucket_table.proofs.Steps.{ends-set}
 use Rattle.bucket_table.proofs.sound.set_ends.Statement.{statement}
 use Rattle.bucket_table.proofs.sound.set_ends.Tie as tie
 

@@ -1,6 +1,6 @@
 -- No row has a word that changes.
-use Rattle.bucket_table.proofs.Steps.{owner-set}
 use borrow.Author.Needs.{needs}
+use Rattle.bucket_table.proofs.Steps.{owner-set}
 use Rattle.bucket_table.proofs.sound.set_owner.Statement.{statement}
 use Rattle.bucket_table.proofs.sound.set_owner.Tie as tie
 

@@ -1,6 +1,6 @@
 -- A store is seen in its own word, at its record.
-use Rattle.bucket_table.proofs.Words.{stored}
 use borrow.Author.Needs.{needs}
+use Rattle.bucket_table.proofs.Words.{stored}
 use Rattle.bucket_table.proofs.sound.store.Statement.{statement}
 use Rattle.bucket_table.proofs.sound.store.Tie as tie
 

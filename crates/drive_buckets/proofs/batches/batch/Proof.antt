@@ -2,10 +2,10 @@
 use mathlib.Core.Path.{refl}
 use Prim.Native.Nat.{ℕ}
 use denote.Ref.{now}
-use Rattle.frequency_reads.specs.Replies.{countReply}
+use borrow.Author.Needs.{needs}
+use Rattle.answers.specs.Replies.{countReply}
 use Rattle.drive_buckets.specs.Calls.{batchCall}
 use Rattle.drive_buckets.proofs.Driving.{made, sent, no-batch}
-use borrow.Author.Needs.{needs}
 use Rattle.drive_buckets.proofs.batches.batch.Statement.{statement}
 use Rattle.drive_buckets.proofs.batches.batch.Tie as tie
 

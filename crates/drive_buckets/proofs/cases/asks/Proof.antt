@@ -1,10 +1,10 @@
 -- The operation names the call of its arm; where it names none, it is BAD.
 use mathlib.Core.Path.{refl}
 use Prim.Native.Nat.{ℕ}
-use Rattle.frequency_reads.specs.Replies.{levelReply, leastReply, epochReply, countReply, askedReply}
+use borrow.Author.Needs.{needs}
+use Rattle.answers.specs.Replies.{levelReply, leastReply, epochReply, countReply, askedReply}
 use Rattle.drive_buckets.specs.Calls.{queryCall}
 use Rattle.drive_buckets.proofs.Driving.{made, sent, no-query}
-use borrow.Author.Needs.{needs}
 use Rattle.drive_buckets.proofs.cases.asks.Statement.{statement}
 use Rattle.drive_buckets.proofs.cases.asks.Tie as tie
 

@@ -1,12 +1,11 @@
 -- The operation names the call of its arm; where it names none of them, it only answers, or it is BAD.
 use mathlib.Core.Path.{refl, ap, _∙_}
 use Prim.Native.Nat.{ℕ}
-use Rattle.frequency_calls.specs.Replies.{plainReply}
-use Rattle.frequency_reads.specs.Replies.{epochReply}
+use borrow.Author.Needs.{needs}
+use Rattle.answers.specs.Replies.{epochReply, plainReply}
 use Rattle.drive_lines.specs.Lines.{text}
 use Rattle.drive_buckets.specs.Calls.{epochCall}
 use Rattle.drive_buckets.proofs.Driving.{made, sent, no-epoch}
-use borrow.Author.Needs.{needs}
 use Rattle.drive_buckets.proofs.cases.dates.Statement.{statement}
 use Rattle.drive_buckets.proofs.cases.dates.Tie as tie
 

@@ -1,10 +1,10 @@
 -- The operation names the call of its arm; where it names none of them, it changes epochs at most, or it is BAD.
 use mathlib.Core.Path.{refl}
 use Prim.Native.Nat.{ℕ}
-use Rattle.frequency_calls.specs.Replies.{plainReply}
+use borrow.Author.Needs.{needs}
+use Rattle.answers.specs.Replies.{plainReply}
 use Rattle.drive_buckets.specs.Calls.{wholeCall}
 use Rattle.drive_buckets.proofs.Driving.{made, sent, not-whole}
-use borrow.Author.Needs.{needs}
 use Rattle.drive_buckets.proofs.cases.whole.Statement.{statement}
 use Rattle.drive_buckets.proofs.cases.whole.Tie as tie
 

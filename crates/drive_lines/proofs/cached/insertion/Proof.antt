@@ -1,7 +1,7 @@
 -- By the answer's case.
-use Rattle.drive_lines.specs.Lines.{insertionText}
 use mathlib.Core.Path.{sym, ap}
 use borrow.Author.Needs.{needs}
+use Rattle.drive_lines.specs.Lines.{insertionText}
 use Rattle.drive_lines.proofs.cached.insertion.Statement.{statement}
 use Rattle.drive_lines.proofs.cached.insertion.Tie as tie
 

@@ -1,9 +1,9 @@
 -- By the answer's case.
-use Rattle.lfu_calls.specs.Replies.{valueReply}
-use Rattle.drive_lines.specs.Lines.{replyText}
-use Rattle.lfu_calls.specs.declared.Value.{Value}
 use mathlib.Core.Path.{sym, ap}
 use borrow.Author.Needs.{needs}
+use Rattle.answers.specs.declared.Value.{Value}
+use Rattle.answers.specs.Replies.{valueReply}
+use Rattle.drive_lines.specs.Lines.{replyText}
 use Rattle.drive_lines.proofs.cached.value.Statement.{statement}
 use Rattle.drive_lines.proofs.cached.value.Tie as tie
 

@@ -1,6 +1,6 @@
 -- The pieces of a line stand one behind another.
-use Rattle.drive_lines.proofs.Spelling.{alone-spelled, one-spelled, two-spelled, stored-spelled, just-spelled}
 use borrow.Author.Needs.{needs}
+use Rattle.drive_lines.proofs.Spelling.{alone-spelled, one-spelled, two-spelled, stored-spelled, just-spelled}
 use Rattle.drive_lines.proofs.sound.write.Statement.{statement}
 use Rattle.drive_lines.proofs.sound.write.Tie as tie
 

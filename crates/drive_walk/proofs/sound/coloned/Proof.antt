@@ -1,8 +1,8 @@
 -- A colon, and the number behind it.
-use Rattle.trace.specs.Lines.{DIGITS}
-use Rattle.trace.proofs.Writing.{spells-then, spelled}
 use native.Mathlib.Omega.{arith}
 use borrow.Author.Needs.{needs}
+use Rattle.trace.specs.Lines.{DIGITS}
+use Rattle.trace.proofs.Writing.{spells-then, spelled}
 use Rattle.drive_walk.proofs.sound.coloned.Statement.{statement}
 use Rattle.drive_walk.proofs.sound.coloned.Tie as tie
 

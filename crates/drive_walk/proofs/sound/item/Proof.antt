@@ -1,6 +1,6 @@
 -- The three numbers, one behind another.
-use Rattle.drive_walk.proofs.Items.{item-spelled}
 use borrow.Author.Needs.{needs}
+use Rattle.drive_walk.proofs.Items.{item-spelled}
 use Rattle.drive_walk.proofs.sound.item.Statement.{statement}
 use Rattle.drive_walk.proofs.sound.item.Tie as tie
 

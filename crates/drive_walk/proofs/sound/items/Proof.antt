@@ -1,9 +1,9 @@
 -- Each turn writes the item that the walk stands at; what is left is shown from there on.
-use Rattle.frequency_walk.specs.Replies.{stepReply}
-use Rattle.drive_walk.proofs.Items.{past-all, nowhere, no-room, Written, begun, ended, more}
 use mathlib.Core.Path.{ap}
 use borrow.Author.Needs.{needs}
 use native.Mathlib.Omega.{arith}
+use Rattle.answers.specs.Replies.{stepReply}
+use Rattle.drive_walk.proofs.Items.{past-all, nowhere, no-room, Written, begun, ended, more}
 use Rattle.drive_walk.proofs.sound.items.Statement.{statement}
 use Rattle.drive_walk.proofs.sound.items.Tie as tie
 

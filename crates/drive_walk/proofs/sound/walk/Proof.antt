@@ -1,9 +1,9 @@
 -- A refusal, or the ledger's list behind DONE.
-use Rattle.frequency_walk.specs.Replies.{stepReply}
-use Rattle.drive_walk.proofs.Walking.{unrefused, refuses, found, limited, walkable, printed}
 use mathlib.Core.Path.{ap}
 use native.Mathlib.Omega.{arith}
 use borrow.Author.Needs.{needs}
+use Rattle.answers.specs.Replies.{stepReply}
+use Rattle.drive_walk.proofs.Walking.{unrefused, refuses, found, limited, walkable, printed}
 use Rattle.drive_walk.proofs.sound.walk.Statement.{statement}
 use Rattle.drive_walk.proofs.sound.walk.Tie as tie
 

@@ -1,6 +1,6 @@
 -- The slot comes to the front of the line's list, and the other lines stay.
-use Rattle.levels.proofs.Steps as laws
 use borrow.Author.Needs.{needs}
+use Rattle.levels.proofs.Steps as laws
 use Rattle.levels.proofs.sound.attach.Statement.{statement}
 use Rattle.levels.proofs.sound.attach.Tie as tie
 

@@ -1,7 +1,7 @@
 -- The slot enters at the place that was found.
 use native.Mathlib.Omega.{arith}
-use Rattle.levels.proofs.Calls as laws
 use borrow.Author.Needs.{needs}
+use Rattle.levels.proofs.Calls as laws
 use Rattle.levels.proofs.sound.bind.Statement.{statement}
 use Rattle.levels.proofs.sound.bind.Tie as tie
 

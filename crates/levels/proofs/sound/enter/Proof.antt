@@ -1,6 +1,6 @@
 -- The record is there or is made, and the slot comes to the front of its list.
-use Rattle.levels.proofs.Enter as laws
 use borrow.Author.Needs.{needs}
+use Rattle.levels.proofs.Enter as laws
 use Rattle.levels.proofs.sound.enter.Statement.{statement}
 use Rattle.levels.proofs.sound.enter.Tie as tie
 

@@ -1,6 +1,6 @@
 -- Three stores.
-use Rattle.levels.proofs.Steps as laws
 use borrow.Author.Needs.{needs}
+use Rattle.levels.proofs.Steps as laws
 use Rattle.levels.proofs.sound.free.Statement.{statement}
 use Rattle.levels.proofs.sound.free.Tie as tie
 

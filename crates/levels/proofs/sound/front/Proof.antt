@@ -1,6 +1,6 @@
 -- The slot moves inside its line, and the other lines stay.
-use Rattle.levels.proofs.Steps as laws
 use borrow.Author.Needs.{needs}
+use Rattle.levels.proofs.Steps as laws
 use Rattle.levels.proofs.sound.front.Statement.{statement}
 use Rattle.levels.proofs.sound.front.Tie as tie
 

@@ -1,9 +1,9 @@
 -- The first record from the frequency on has it, or no record has.
-use Rattle.levels.proofs.Answers as laws
-use Rattle.lists.proofs.Tests.{said-no}
-use Rattle.bucket_table.proofs.Places.{spot-in}
 use denote.Ref.{now}
 use mathlib.Core.Path.{refl}
+use Rattle.lists.proofs.Tests.{said-no}
+use Rattle.bucket_table.proofs.Places.{spot-in}
+use Rattle.levels.proofs.Answers as laws
 use Rattle.levels.proofs.sound.head.Statement.{statement}
 use Rattle.levels.proofs.sound.head.Tie as tie
 

@@ -1,8 +1,8 @@
 -- Both tests, in the words of the contract.
-use Rattle.levels.proofs.Answers as laws
-use Rattle.bucket_table.proofs.Places.{spot-at}
 use denote.Ref.{now}
 use borrow.Author.Needs.{needs}
+use Rattle.bucket_table.proofs.Places.{spot-at}
+use Rattle.levels.proofs.Answers as laws
 use Rattle.levels.proofs.sound.in_place.Statement.{statement}
 use Rattle.levels.proofs.sound.in_place.Tie as tie
 

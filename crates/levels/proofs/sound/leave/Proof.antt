@@ -1,8 +1,8 @@
 -- The slot leaves its list and is marked free; then a slot is left, or the record goes.
-use Rattle.links.proofs.Lists.{fits-still}
 use mathlib.Core.Path.{refl}
-use Rattle.levels.proofs.Leave as laws
 use borrow.Author.Needs.{needs}
+use Rattle.links.proofs.Lists.{fits-still}
+use Rattle.levels.proofs.Leave as laws
 use Rattle.levels.proofs.sound.leave.Statement.{statement}
 use Rattle.levels.proofs.sound.leave.Tie as tie
 

@@ -1,6 +1,6 @@
 -- The line of one slot gets another frequency.
-use Rattle.levels.proofs.Steps as laws
 use borrow.Author.Needs.{needs}
+use Rattle.levels.proofs.Steps as laws
 use Rattle.levels.proofs.sound.lift.Statement.{statement}
 use Rattle.levels.proofs.sound.lift.Tie as tie
 

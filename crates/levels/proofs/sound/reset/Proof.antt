@@ -1,12 +1,12 @@
 -- All slots passed are marked free, and the tables keep their sizes.
-use Rattle.levels.proofs.Steps as laws
 use native.Mathlib.Omega.{arith}
 use borrow.Author.Needs.{needs}
 use Prim.Native.Nat.{ℕ, _<_, _≤_, _-_}
 use mathlib.Core.Path.{_≡_, refl}
 use lib.ListN.{length, length-set}
-use Rattle.levels.specs.Held.{Free}
 use denote.Ref.{now}
+use Rattle.levels.proofs.Steps as laws
+use Rattle.levels.specs.Held.{Free}
 use Rattle.levels.proofs.sound.reset.Statement.{statement}
 use Rattle.levels.proofs.sound.reset.Tie as tie
 

@@ -1,9 +1,9 @@
 -- At the cap the slot moves inside its list; alone it takes its record along; else it leaves and enters.
-use Rattle.levels.proofs.Calls as laws
-use Rattle.levels.proofs.Leave as leave
 use native.Mathlib.Omega.{arith}
 use mathlib.Core.Path.{refl}
 use borrow.Author.Needs.{needs}
+use Rattle.levels.proofs.Calls as laws
+use Rattle.levels.proofs.Leave as leave
 use Rattle.levels.proofs.sound.touch.Statement.{statement}
 use Rattle.levels.proofs.sound.touch.Tie as tie
 

@@ -1,7 +1,7 @@
 -- The slot leaves.
+use borrow.Author.Needs.{needs}
 use Rattle.levels.proofs.Calls as laws
 use Rattle.levels.proofs.Leave as leave
-use borrow.Author.Needs.{needs}
 use Rattle.levels.proofs.sound.unbind.Statement.{statement}
 use Rattle.levels.proofs.sound.unbind.Tie as tie
 

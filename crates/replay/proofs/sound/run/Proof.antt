@@ -1,11 +1,11 @@
 -- Every turn leaves the tables sound.
-use Rattle.replay.proofs.Turning.{Running, turn-sound}
-use Rattle.trace_parts.proofs.Sizes.{sizes-fit, buffers-stay}
-use Rattle.trace_parts.proofs.Feeding.{sizes-same, sizes-then}
-use Rattle.lfu_tables.specs.Tables.{withValues}
-use Rattle.frequency_tables.specs.Tables.{tables}
 use mathlib.Core.Path.{refl, _∙_}
 use native.Mathlib.Omega.{arith}
+use Rattle.buckets_tables.specs.Tables.{tables}
+use Rattle.cache_tables.specs.Tables.{withValues}
+use Rattle.trace_input.proofs.Sizes.{sizes-fit, buffers-stay}
+use Rattle.trace_input.proofs.Feeding.{sizes-same, sizes-then}
+use Rattle.replay.proofs.Turning.{Running, turn-sound}
 use Rattle.replay.proofs.sound.run.Statement.{statement}
 use Rattle.replay.proofs.sound.run.Tie as tie
 

@@ -1,7 +1,7 @@
 -- The first places of the arrays have the lengths that the capacity calls for, and the buffers are large.
-use Rattle.trace_parts.proofs.Sizes.{zeros-size, start-sizes, large-buffers}
 use native.Mathlib.Omega.{arith}
 use borrow.Author.Needs.{needs}
+use Rattle.trace_input.proofs.Sizes.{zeros-size, start-sizes, large-buffers}
 use Rattle.replay.proofs.sound.start.Statement.{statement}
 use Rattle.replay.proofs.sound.start.Tie as tie
 

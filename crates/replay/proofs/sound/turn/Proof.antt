@@ -1,11 +1,11 @@
 -- What was read fits, and so does what it prints.
-use Rattle.replay.proofs.Turning.{more-full}
-use Rattle.trace_parts.proofs.Sizes.{read-fits}
-use Rattle.trace_parts.specs.Parts.{PART}
 use lib.Seq.{length-take-le, length-front}
 use mathlib.Core.Path.{sym}
 use native.Mathlib.Omega.{arith}
 use borrow.Author.Needs.{needs}
+use Rattle.trace_input.proofs.Sizes.{read-fits}
+use Rattle.trace_input.specs.Parts.{PART}
+use Rattle.replay.proofs.Turning.{more-full}
 use Rattle.replay.proofs.sound.turn.Statement.{statement}
 use Rattle.replay.proofs.sound.turn.Tie as tie
 

@@ -1,9 +1,9 @@
 -- What was read fits, and so does what it prints.
-use Rattle.lists.proofs.Tests.{neither}
 use lib.Seq.{length-take-le, length-front}
 use mathlib.Core.Path.{sym}
 use native.Mathlib.Omega.{arith}
 use borrow.Author.Needs.{needs}
+use Rattle.lists.proofs.Tests.{neither}
 use Rattle.replay_cases.proofs.sound.case.Statement.{statement}
 use Rattle.replay_cases.proofs.sound.case.Tie as tie
 

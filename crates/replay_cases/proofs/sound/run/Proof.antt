@@ -1,8 +1,8 @@
 -- The buffers keep their lengths.
-use Rattle.trace_parts.proofs.Sizes.{buffers-stay}
 use lib.ListN.{length}
 use mathlib.Core.Path.{_≡_, refl, _∙_}
 use native.Mathlib.Omega.{arith}
+use Rattle.trace_input.proofs.Sizes.{buffers-stay}
 use Rattle.replay_cases.proofs.sound.run.Statement.{statement}
 use Rattle.replay_cases.proofs.sound.run.Tie as tie
 

@@ -1,7 +1,7 @@
 -- The digits that the kit finds are copied.
-use Rattle.trace.proofs.Writing.{digits-few, number-spelled}
 use native.Mathlib.Omega.{arith}
 use borrow.Author.Needs.{needs}
+use Rattle.trace.proofs.Writing.{digits-few, number-spelled}
 use Rattle.trace.proofs.sound.number.Statement.{statement}
 use Rattle.trace.proofs.sound.number.Tie as tie
 

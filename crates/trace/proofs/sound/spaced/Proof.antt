@@ -1,8 +1,8 @@
 -- A blank, and the number behind it.
-use Rattle.trace.specs.Lines.{DIGITS}
 use native.Mathlib.Omega.{arith}
-use Rattle.trace.proofs.Writing.{spells-then, spelled}
 use borrow.Author.Needs.{needs}
+use Rattle.trace.specs.Lines.{DIGITS}
+use Rattle.trace.proofs.Writing.{spells-then, spelled}
 use Rattle.trace.proofs.sound.spaced.Statement.{statement}
 use Rattle.trace.proofs.sound.spaced.Tie as tie
 

@@ -1,7 +1,7 @@
 -- Each word is its own byte string.
+use borrow.Author.Needs.{needs}
 use Rattle.trace.specs.declared.Word.the-variants as word
 use Rattle.trace.proofs.Writing.{word-spelled}
-use borrow.Author.Needs.{needs}
 use Rattle.trace.proofs.sound.spell.Statement.{statement}
 use Rattle.trace.proofs.sound.spell.Tie as tie
 

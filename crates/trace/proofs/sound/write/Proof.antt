@@ -1,6 +1,6 @@
 -- The pieces of a line stand one behind another.
-use Rattle.trace.proofs.Writing.{plain-spelled, one-spelled, two-spelled}
 use borrow.Author.Needs.{needs}
+use Rattle.trace.proofs.Writing.{plain-spelled, one-spelled, two-spelled}
 use Rattle.trace.proofs.sound.write.Statement.{statement}
 use Rattle.trace.proofs.sound.write.Tie as tie
 

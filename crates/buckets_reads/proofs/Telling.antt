@@ -1,0 +1,129 @@
+-- Each call that only answers gives the ledger's reply: by what was found in the index, and by the lowest list.
+use mathlib.Core.Path.{_≡_, refl, sym, ap, _∙_}
+use mathlib.Core.Logic.{_≢_}
+use mathlib.Core.Option.{none, some}
+use mathlib.Core.List.{List, [], _∷_}
+use Prim.Native.Nat.{ℕ, _<_}
+use native.Mathlib.Omega.{arith}
+use lib.Dec.{eqb}
+use lib.ListN.{length}
+use Rattle.numbers.specs.Marks.{NONE}
+use Rattle.numbers.specs.declared.Answer.the-variants.{Absent, Empty}
+use Rattle.numbers.specs.declared.Slot.{Slot}
+use Rattle.ledger.specs.Ledger.{Entry, Level, Ledger, Item, ifFound, lookup, tail, lowest, NonEmpty, Rising}
+use Rattle.ledger.specs.Buckets.{Outcome, done, refused, yesNo, contains, frequency, entryEpoch, currentEpoch, len, isEmpty, minFreq, peekMin}
+use Rattle.promise.specs.Promise.{Tells}
+use Rattle.links.specs.Chain.{cells}
+use Rattle.key_index.specs.Index as index
+use Rattle.key_index.specs.declared.Found.the-variants.{At, Nothing}
+use Rattle.key_index.specs.Index.{IndexSound}
+use Rattle.levels.specs.Levels as levels
+use Rattle.buckets_tables.specs.declared.State.{State}
+use Rattle.buckets_tables.specs.Tables.{Tables}
+use Rattle.buckets_tables.specs.Holds.{lowestOf, Carries}
+use Rattle.buckets_tables.proofs.Found.{Stands, found-at, found-nothing, lowest-nothing}
+use Rattle.buckets_tables.proofs.Doing.{least, stands-x}
+use Rattle.buckets_tables.specs.Lent.{buckets}
+
+-- A key that the index finds, or does not
+
+-- a slot that is found lies in the tables, and its number is small enough for a place in memory
+pub found-below : (i k : List ℕ) (key : ℕ) (x : Slot) → IndexSound i k → index.Finds i k key (At x) → (x .0 < length k) × (x .0 < 4096)
+found-below i k key x w f = let a = w .limit in let b = f .0 .0 in (b, omega arith)
+
+-- what a call says that asks for one number of a bound key
+abbrev asked : (Item → ℕ) → ℕ → Ledger → Outcome
+asked g k l = ifFound (lookup k l) (refused Absent, l) (λ y. (done (g y ∷ []), l))
+
+module _ (t : Tables) (s : State) (key : ℕ) where
+  module _ (absent : index.Finds (t .index) (t .keys) key Nothing) where
+    asked-absent : (g : Item → ℕ) → Tells buckets (asked g key) t s (refused Absent)
+    asked-absent g l h = rw (found-nothing t s l (h .carries) key absent)
+
+    pub contains-no : Tells buckets (contains key) t s (done (0 ∷ []))
+    unfolding contains
+    contains-no l h = rw (found-nothing t s l (h .carries) key absent)
+
+    pub frequency-absent : Tells buckets (frequency key) t s (refused Absent)
+    unfolding frequency
+    frequency-absent = asked-absent (λ y. y .frequency)
+
+    pub epoch-absent : Tells buckets (entryEpoch key) t s (refused Absent)
+    unfolding entryEpoch
+    epoch-absent = asked-absent (λ y. y .epoch)
+
+  module _ (x : Slot) (at-x : index.Finds (t .index) (t .keys) key (At x)) where
+    asked-found : (g : Item → ℕ) (n : ℕ) → ((l : Ledger) (h : Carries t s l) (y : Item) → Stands t s l h y (x .0) → n ≡ g y) → Tells buckets (asked g key) t s (done (n ∷ []))
+    asked-found g n same l h =
+        let w = found-at t s l (h .carries) key x at-x in
+        rw (w .found) (ap (λ (m : ℕ). done (m ∷ [])) (same l (h .carries) (w .item-is) (w .there-is)))
+
+    pub contains-yes : Tells buckets (contains key) t s (done (1 ∷ []))
+    unfolding contains
+    contains-yes l h = rw (found-at t s l (h .carries) key x at-x .found)
+
+    pub frequency-found : Tells buckets (frequency key) t s (done (cells (t .freqs) (x .0) ∷ []))
+    unfolding frequency
+    frequency-found = asked-found (λ y. y .frequency) (cells (t .freqs) (x .0)) (λ l h y st. st .frequency)
+
+    pub epoch-found : Tells buckets (entryEpoch key) t s (done (cells (t .epochs) (x .0) ∷ []))
+    unfolding entryEpoch
+    epoch-found = asked-found (λ y. y .epoch) (cells (t .epochs) (x .0)) (λ l h y st. st .epoch)
+
+-- The lowest frequency
+
+-- the tail of a list that is not empty has the list's frequency
+tail-some : (f : ℕ) (e : Entry) (es : List Entry) → (y : Item) × (tail f (e ∷ es) ≡ some y) × (y .frequency ≡ f)
+tail-some f e [] = (_, refl, refl)
+tail-some f e (d ∷ es) = tail-some f d es
+
+-- a lowest frequency of 0 says that there is no level, and any other is that of the tail of the lowest list
+none-lowest : (ls : List Level) → Rising 0 ls → lowestOf ls ≡ 0 → lowest ls ≡ none
+none-lowest [] r e = refl
+none-lowest (l ∷ ls) r e = let a = r .0 in absurd (omega arith)
+
+some-lowest : (ls : List Level) → Rising 0 ls → lowestOf ls ≢ 0 → (y : Item) × (lowest ls ≡ some y) × (y .frequency ≡ lowestOf ls)
+some-lowest [] r d = absurd (d refl)
+some-lowest (l ∷ ls) r d = go (l .entries) (r .2)
+  where
+    go : (es : List Entry) → NonEmpty es → (y : Item) × (tail (l .frequency) es ≡ some y) × (y .frequency ≡ l .frequency)
+    go (e ∷ es) n = tail-some (l .frequency) e es
+
+module _ (t : Tables) (s : State) where
+  pub min-empty : s .lowest ≡ 0 → Tells buckets minFreq t s (refused Empty)
+  unfolding minFreq
+  min-empty e l h = rw (none-lowest (l .levels) (h .carries .formed .rising) (sym (h .carries .lowest) ∙ e))
+
+  pub min-some : s .lowest ≢ 0 → Tells buckets minFreq t s (done (s .lowest ∷ []))
+  unfolding minFreq
+  min-some d l h =
+      let w = some-lowest (l .levels) (h .carries .formed .rising) (λ q. d (h .carries .lowest ∙ q)) in
+      rw (w .1) (ap (λ (m : ℕ). done (m ∷ [])) (h .carries .lowest ∙ sym (w .2)))
+
+  -- epoch and count of the state are the ledger's
+
+  pub epoch-told : Tells buckets currentEpoch t s (done (s .epoch ∷ []))
+  unfolding currentEpoch
+  epoch-told l h = ap (λ (m : ℕ). done (m ∷ [])) (h .carries .epoch)
+
+  pub len-told : Tells buckets len t s (done (s .count ∷ []))
+  unfolding len
+  len-told l h = ap (λ (m : ℕ). done (m ∷ [])) (h .carries .count)
+
+  pub empty-told : Tells buckets isEmpty t s (done (yesNo (eqb (s .count) 0) ∷ []))
+  unfolding isEmpty
+  empty-told l h = ap (λ (m : ℕ). done (yesNo (eqb m 0) ∷ [])) (h .carries .count)
+
+-- The tail of the lowest list
+
+module _ (t : Tables) (s : State) (x : ℕ) (low : (l : Ledger) (h : Carries t s l) → x ≡ levels.lowest (h .slots)) where
+  pub peek-empty : x ≡ NONE → Tells buckets peekMin t s (refused Empty)
+  unfolding peekMin
+  peek-empty e l h = rw (lowest-nothing t s l (h .carries) (sym (low l (h .carries)) ∙ e))
+
+  pub peek-some : x ≢ NONE → Tells buckets peekMin t s (done (cells (t .keys) x ∷ cells (t .freqs) x ∷ []))
+  unfolding peekMin
+  peek-some d l h =
+      let w = least t s x low d l (h .carries) in
+      let st = stands-x t s x low d l (h .carries) in
+      rw (w .1 .is) (λ i. done (st .key i ∷ st .frequency i ∷ []))

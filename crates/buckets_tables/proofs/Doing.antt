@@ -1,0 +1,207 @@
+-- Each call on sound tables does what the ledger's function does: by what was found, and by what binding, hitting and letting go
+-- promise. A call that refuses leaves everything, a call that is done keeps free slots blank.
+use mathlib.Core.Path.{_≡_, refl, sym, ap, _∙_, subst}
+use mathlib.Core.Logic.{_≢_}
+use mathlib.Core.Option.{none}
+use mathlib.Core.List.{List, [], _∷_}
+use Prim.Native.Nat.{ℕ, _≤_}
+use native.Mathlib.Omega.{arith}
+use Rattle.numbers.specs.Marks.{NONE}
+use Rattle.numbers.specs.Frequency.{CEILING}
+use Rattle.numbers.specs.declared.Answer.{Answer}
+use Rattle.numbers.specs.declared.Answer.the-variants.{Absent, Present, Full, Empty}
+use Rattle.numbers.specs.declared.Slot.{Slot}
+use Rattle.lists.specs.Lists.{All, Without, one, times}
+use Rattle.lists.proofs.Tests.{one-same}
+use Rattle.lists.proofs.Members.{all-both, in-sum, times-without}
+use Rattle.ledger.specs.Ledger.{Ledger, Item, items, lookup, putAt, release}
+use Rattle.ledger.specs.Buckets.{done, refused, Outcome, insert, touchUpTo, remove, popMin}
+use Rattle.ledger.proofs.Slots.{bound-slot, free-slot}
+use Rattle.ledger.proofs.Refusals.{done-refused}
+use Rattle.promise.specs.Promise.{Does, Sound}
+use Rattle.links.specs.Chain.{cells}
+use Rattle.slot_arena.proofs.Free.{first-none, first-slot}
+use Rattle.slot_arena.specs.Arena.{ArenaHolds}
+use Rattle.key_index.specs.Index as index
+use Rattle.key_index.specs.declared.Found.the-variants.{At, Nothing}
+use Rattle.levels.specs.Levels as levels
+use Rattle.buckets_tables.specs.declared.State.{State}
+use Rattle.buckets_tables.specs.declared.Placed.{Placed}
+use Rattle.buckets_tables.specs.declared.Hit.{Hit}
+use Rattle.buckets_tables.specs.Tables.{Tables, tables}
+use Rattle.buckets_tables.specs.Holds.{SameCells, Carries, Blank, Holds}
+use Rattle.buckets_tables.specs.Calls.{Room, Binds, BoundIn, Hits, LetsGo}
+use Rattle.buckets_tables.proofs.Found.{Stands, found-at, found-nothing, Least, lowest-nothing, lowest-some}
+use Rattle.buckets_tables.specs.Lent.{buckets}
+
+-- a call that refuses whatever the tables hold
+pub does-refuse : (f : Ledger → Outcome) (t : Tables) (s : State) (a : Answer) → ((l : Ledger) → Holds t s l → f l ≡ (refused a, l)) → Does buckets f t s (refused a) t s
+does-refuse f t s a h l w = record {
+  answer = sym (ap (λ (o : Outcome). o .0) (h l w));
+  holds = subst (Holds t s) (sym (ap (λ (o : Outcome). o .1) (h l w))) w;
+  leaves = λ b e. (refl, refl);
+}
+
+-- a call that is done
+pub does-done : (f : Ledger → Outcome) (t : Tables) (s : State) (ns : List ℕ) (t' : Tables) (s' : State) →
+    ((l : Ledger) → Holds t s l → done ns ≡ f l .0) → ((l : Ledger) → Holds t s l → Holds t' s' (f l .1)) → Does buckets f t s (done ns) t' s'
+does-done f t s ns t' s' h k l w = record { answer = h l w; holds = k l w; leaves = λ b e. done-refused ns b e }
+
+-- slots other than x stay blank
+pub still-blank : (t t' : Tables) (x : ℕ) (xs : List ℕ) → ((y : ℕ) → y ≢ x → SameCells (t .keys) (t .epochs) (t' .keys) (t' .epochs) y) → Without x xs →
+    All (Blank (t .keys) (t .epochs)) xs → All (Blank (t' .keys) (t' .epochs)) xs
+still-blank t t' x xs same w z =
+    all-both (λ y. y ≢ x) (Blank (t .keys) (t .epochs)) (Blank (t' .keys) (t' .epochs)) (λ y d b. (same y d .0 ∙ b .0, same y d .1 ∙ b .1)) xs w z
+
+-- a free order that does not begin with NONE begins with its first slot
+pub free-some : (t : Tables) (s : State) (l : Ledger) → Carries t s l → s .free .first ≢ NONE → (rest : List ℕ) × (l .free ≡ s .free .first ∷ rest)
+free-some t s l h d = go (l .free) (h .free)
+  where
+    go : (free : List ℕ) → ArenaHolds (t .arena) (s .free) free → (rest : List ℕ) × (free ≡ s .free .first ∷ rest)
+    go [] w = absurd (d (first-none (t .arena) (s .free) [] w .0 refl))
+    go (x ∷ rest) w = (rest, λ i. sym (first-slot (t .arena) (s .free) x rest w .0) i ∷ rest)
+
+-- what the tables hold after a key is bound
+pub bind-holds : (t : Tables) (s : State) (key f : ℕ) (t' : Tables) (r : Placed) → Binds t s key f t' r → (l : Ledger) (h : Holds t s l) (rest : List ℕ) →
+    lookup key l ≡ none → l .free ≡ s .free .first ∷ rest → 1 ≤ f → f ≤ CEILING → Holds t' (r .state) (putAt f key (s .free .first) rest l)
+bind-holds t s key f t' r binds l h rest absent free-is lo hi =
+    let w = free-slot l (h .carries .formed) (s .free .first) rest free-is .1 in
+    record {
+      carries = binds .carries l rest (h .carries) absent free-is lo hi;
+      zeros = still-blank t t' (s .free .first) rest (binds .others) (times-without (s .free .first) rest w) ((rw free-is at (h .zeros)) .1);
+    }
+
+-- `insert`
+
+module _ (t : Tables) (s : State) (key : ℕ) where
+  pub insert-present : (x : Slot) → index.Finds (t .index) (t .keys) key (At x) → Does buckets (insert key) t s (refused Present) t s
+  unfolding insert
+  insert-present x f = does-refuse (insert key) t s Present (λ l h. rw (found-at t s l (h .carries) key x f .found))
+
+  module _ (absent : index.Finds (t .index) (t .keys) key Nothing) where
+    pub insert-full : s .free .first ≡ NONE → Does buckets (insert key) t s (refused Full) t s
+    unfolding insert
+    insert-full e =
+        does-refuse (insert key) t s Full
+        (λ l h. rw (found-nothing t s l (h .carries) key absent, first-none (t .arena) (s .free) (l .free) (h .carries .free) .1 e))
+
+    -- there is a slot for the key
+    pub insert-room : Sound buckets t s → s .free .first ≢ NONE → Room t s key 1
+    insert-room w d =
+        let f = free-some t s (w .0) (w .1 .carries) d in
+        record {
+          level = (omega arith, omega arith);
+          ledger = w .0;
+          rest = f .0;
+          carries = w .1 .carries;
+          absent = found-nothing t s (w .0) (w .1 .carries) key absent;
+          free-is = f .1;
+        }
+
+    pub insert-done : s .free .first ≢ NONE → (t' : Tables) (r : Placed) → Binds t s key 1 t' r → Does buckets (insert key) t s (done []) t' (r .state)
+    unfolding insert
+    insert-done d t' r binds =
+        does-done (insert key) t s [] t' (r .state)
+        (λ l h.
+        let f = free-some t s l (h .carries) d in
+        rw (found-nothing t s l (h .carries) key absent, f .1))
+        (λ l h.
+        let f = free-some t s l (h .carries) d in
+        let e = found-nothing t s l (h .carries) key absent in
+        rw (e, f .1) (bind-holds t s key 1 t' r binds l h (f .0) e (f .1) (omega arith) (omega arith)))
+
+-- A bound key
+
+-- its slot is bound
+pub found-bound : (t : Tables) (s : State) (key : ℕ) (x : Slot) → Sound buckets t s → index.Finds (t .index) (t .keys) key (At x) → BoundIn t s (x .0)
+found-bound t s key x w f = record { ledger = w .0; carries = w .1 .carries; bound = w .1 .carries .indexed (x .0) .0 (f .0) }
+
+-- `touch`, up to a cap
+
+pub touch-absent : (t : Tables) (s : State) (cap key : ℕ) → index.Finds (t .index) (t .keys) key Nothing → Does buckets (touchUpTo cap key) t s (refused Absent) t s
+unfolding touchUpTo
+touch-absent t s cap key f = does-refuse (touchUpTo cap key) t s Absent (λ l h. rw (found-nothing t s l (h .carries) key f))
+
+pub touch-done : (k f e p n a i b sp : List ℕ) (s : State) (cap key : ℕ) (x : Slot) → cap ≤ CEILING → index.Finds i k key (At x) →
+    (f' e' p' n' b' sp' : List ℕ) (r : Hit) → Hits f e p n b sp s (x .0) cap f' e' p' n' b' sp' r →
+    Does buckets (touchUpTo cap key) (tables k f e p n a i b sp) s (done (r .frequency .0 ∷ [])) (tables k f' e' p' n' a i b' sp') (r .state)
+unfolding touchUpTo
+touch-done k f e p n a i b sp s cap key x fits at-x f' e' p' n' b' sp' r hits =
+    let t = tables k f e p n a i b sp in
+    let t' = tables k f' e' p' n' a i b' sp' in
+    does-done (touchUpTo cap key) t s (r .frequency .0 ∷ []) t' (r .state)
+    (λ l h.
+    let w = found-at t s l (h .carries) key x at-x in
+    rw (w .found) (ap (λ (m : ℕ). done (m ∷ [])) (hits .answer k a i l (w .item-is) (h .carries) (w .there-is .inside) (w .there-is .slot))))
+    (λ l h.
+    let w = found-at t s l (h .carries) key x at-x in
+    let out = bound-slot l (h .carries .formed) (w .item-is) (w .there-is .inside) .1 in
+    rw (w .found) (record {
+      carries = hits .carries k a i l (w .item-is) (h .carries) (w .there-is .inside) (w .there-is .slot) fits;
+      zeros =
+          still-blank t t' (x .0) (l .free) (λ y d. (refl, hits .others y d))
+          (times-without (x .0) (l .free) (ap (λ (m : ℕ). times m (l .free)) (sym (w .there-is .slot)) ∙ out)) (h .zeros);
+    }))
+
+-- `remove` and `pop_min`
+
+-- what the tables hold after an item is let go
+pub let-go : (t : Tables) (s : State) (x : ℕ) (t' : Tables) (s' : State) → LetsGo t s x t' s' → (l : Ledger) (h : Holds t s l) (y : Item) → Stands t s l (h .carries) y x →
+    Holds t' s' (release y l)
+let-go t s x t' s' gone l h y st =
+    let out = bound-slot l (h .carries .formed) y (st .inside) .1 in
+    record {
+      carries = gone .carries l y (h .carries) (st .inside) (st .slot);
+      zeros = (
+        subst (Blank (t' .keys) (t' .epochs)) (sym (st .slot)) (gone .blank l y (h .carries) (st .inside) (st .slot)),
+        still-blank t t' x (l .free) (gone .others) (times-without x (l .free) (ap (λ (m : ℕ). times m (l .free)) (sym (st .slot)) ∙ out)) (h .zeros),
+      );
+    }
+
+pub remove-absent : (t : Tables) (s : State) (key : ℕ) → index.Finds (t .index) (t .keys) key Nothing → Does buckets (remove key) t s (refused Absent) t s
+unfolding remove
+remove-absent t s key f = does-refuse (remove key) t s Absent (λ l h. rw (found-nothing t s l (h .carries) key f))
+
+pub remove-done : (t : Tables) (s : State) (key : ℕ) (x : Slot) (f : ℕ) → index.Finds (t .index) (t .keys) key (At x) → f ≡ cells (t .freqs) (x .0) →
+    (t' : Tables) (s' : State) → LetsGo t s (x .0) t' s' → Does buckets (remove key) t s (done (f ∷ [])) t' s'
+unfolding remove
+remove-done t s key x f at-x e t' s' gone =
+    does-done (remove key) t s (f ∷ []) t' s'
+    (λ l h.
+    let w = found-at t s l (h .carries) key x at-x in
+    rw (w .found) (ap (λ (m : ℕ). done (m ∷ [])) (e ∙ w .there-is .frequency)))
+    (λ l h. let w = found-at t s l (h .carries) key x at-x in rw (w .found) (let-go t s (x .0) t' s' gone l h (w .item-is) (w .there-is)))
+
+module _ (t : Tables) (s : State) (x : ℕ) (low : (l : Ledger) (h : Carries t s l) → x ≡ levels.lowest (h .slots)) where
+  pub pop-empty : x ≡ NONE → Does buckets popMin t s (refused Empty) t s
+  unfolding popMin
+  pop-empty e = does-refuse popMin t s Empty (λ l h. rw (lowest-nothing t s l (h .carries) (sym (low l (h .carries)) ∙ e)))
+
+  module _ (some-is : x ≢ NONE) where
+    pub least : (l : Ledger) (h : Carries t s l) → (y : Item) × Least t s l h y
+    least l h = lowest-some t s l h (λ q. some-is (low l h ∙ q))
+
+    pub stands-x : (l : Ledger) (h : Carries t s l) → Stands t s l h (least l h .0) x
+    stands-x l h = subst (Stands t s l h (least l h .0)) (sym (low l h)) (least l h .1 .there-is)
+
+    pub pop-bound : Sound buckets t s → BoundIn t s x
+    pop-bound w =
+        let l = w .0 in
+        let h = w .1 .carries in
+        let st = stands-x l h in
+        record {
+          ledger = l;
+          carries = h;
+          bound = let c = in-sum (λ (z : Item). one (z .slot) x) (items (l .levels)) (least l h .0) (st .inside) in omega (arith, one-same (least l h .0 .slot) x (st .slot));
+        }
+
+    pub pop-done : (k f : ℕ) → k ≡ cells (t .keys) x → f ≡ cells (t .freqs) x → (t' : Tables) (s' : State) → LetsGo t s x t' s' →
+        Does buckets popMin t s (done (k ∷ f ∷ [])) t' s'
+    unfolding popMin
+    pop-done k f ek ef t' s' gone =
+        does-done popMin t s (k ∷ f ∷ []) t' s'
+        (λ l h.
+        let w = least l (h .carries) in
+        let st = stands-x l (h .carries) in
+        rw (w .1 .is) (λ i. done ((ek ∙ st .key) i ∷ (ef ∙ st .frequency) i ∷ [])))
+        (λ l h. let w = least l (h .carries) in rw (w .1 .is) (let-go t s x t' s' gone l h (w .0) (stands-x l (h .carries))))

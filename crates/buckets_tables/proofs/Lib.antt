@@ -1,0 +1,11 @@
+pub mod Entries
+pub mod Places
+pub mod Steps
+pub mod Asked
+pub mod Read
+pub mod Found
+pub mod Doing
+pub mod Redated
+pub mod Determined
+pub mod Clearing
+pub mod Public

@@ -1,0 +1,4 @@
+pub mod Tables
+pub mod Slices
+pub mod Lent
+pub mod Steps

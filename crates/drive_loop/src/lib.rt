@@ -1,0 +1,60 @@
+// The program `drive` but for its `main`: standard input to standard output, in large parts.
+ghost use mathlib.Core.Path.{_≡_};
+ghost use Rattle.drive_loop.specs.Turns.{lastTold};
+use buckets_tables::State;
+use drive_lines::Told;
+use trace::Word;
+use trace_input::two_bytes;
+
+pub mod sound;
+
+// How many bytes are read at a time: whole records.
+pub const PART: usize = 65518;
+
+// Up to where in the output buffer a record may begin to print: from there on it has room for the longest walk.
+pub const LAST: usize = 262144;
+
+// Where the printed bytes end, where the next record begins, and the state after the records so far.
+pub struct Fed {
+    pub at: usize,
+    pub next: usize,
+    pub state: State,
+}
+
+// Whether there is more to do, how many bytes were printed and how many have been read, where the next record begins, and the state after
+// the records so far.
+pub struct Turned {
+    pub more: bool,
+    pub at: usize,
+    pub end: usize,
+    pub next: usize,
+    pub state: State,
+}
+
+// Prints a line, and says whether it could be written.
+fn say(told: Told) -> bool {
+    let mut out = [0u8; 128];
+    let n = drive_lines::sound::write(&mut out, 0, told);
+    io::write_all(1, &out[..n])
+}
+
+// The line at the end of the input, of which so many bytes are left.
+fn last_line(left: usize) -> Told
+    ensures { λ r. ⌜ r ≡ lastTold left ⌝ }
+{
+    if left > 0 {
+        return Told::Just(Word::Cut);
+    }
+    Told::Just(Word::End)
+}
+
+// Reads the capacity, makes the tables, and carries out the records.
+pub fn drive() {
+    let mut first = [0u8; 2];
+    let n = io::read_full(0, &mut first);
+    if n < 2 {
+        say(Told::Just(Word::Cut));
+        return;
+    }
+    sound::start(two_bytes(first[0], first[1]));
+}

@@ -1,2 +1,0 @@
-pub mod Replies
-pub mod Walks

@@ -1,3 +1,0 @@
-pub mod Tables
-pub mod Lent
-pub mod Steps

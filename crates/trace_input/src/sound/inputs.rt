@@ -1,0 +1,114 @@
+// A whole input that lies in a buffer, on tables of its own.
+ghost use Prim.Native.Nat.{_+_, _*_, _≤_, _<_};
+ghost use lib.ListN.{length, take};
+ghost use Rattle.ledger.specs.Cache.{newCache};
+ghost use Rattle.cache_tables.specs.Slices.{lent};
+ghost use Rattle.trace.specs.Lines.{LONGEST};
+ghost use Rattle.trace.specs.Output.{output, SLOTS};
+ghost use Rattle.trace_input.specs.Feeding.{PRINT, Sizes};
+ghost use Rattle.trace_input.specs.Parts.{PART, partOutput, InputShows};
+use crate::sound::part;
+use crate::two_bytes;
+use bucket_table::WORDS;
+use trace::Line;
+use trace::Word;
+use trace::sound::write;
+
+// Some records on tables of a capacity, which may have held anything.
+fn afresh(
+    keys: &mut [u64],
+    freqs: &mut [u64],
+    epochs: &mut [u64],
+    prevs: &mut [u64],
+    nexts: &mut [u64],
+    arena: &mut [u64],
+    index: &mut [u64],
+    buckets: &mut [u64],
+    spares: &mut [u64],
+    values: &mut [u64],
+    capacity: u64,
+    records: &[u8],
+    out: &mut [u8],
+) -> usize
+    requires { ⌜ Sizes (lent keys freqs epochs prevs nexts arena index buckets spares values) capacity × (length (now records) * PRINT + LONGEST ≤ length (now out)) ⌝ }
+    ensures { λ r. ⌜ InputShows (partOutput (newCache capacity) (now (records .entry))) (now (out .exit)) r ⌝ }
+{
+    let state = lfu_make::sound::make(
+        keys,
+        freqs,
+        epochs,
+        prevs,
+        nexts,
+        arena,
+        index,
+        spares,
+        values,
+        capacity,
+    );
+    let printed = part(
+        keys,
+        freqs,
+        epochs,
+        prevs,
+        nexts,
+        arena,
+        index,
+        buckets,
+        spares,
+        values,
+        state,
+        records,
+        records.len(),
+        out,
+    );
+    printed.at
+}
+
+// The tables hold 256 slots; the first places, as many as the capacity calls for, are lent.
+fn start(capacity: usize, records: &[u8], out: &mut [u8]) -> usize
+    requires { ⌜ (capacity ≤ SLOTS) × (length (now records) * PRINT + LONGEST ≤ length (now out)) ⌝ }
+    ensures { λ r. ⌜ InputShows (partOutput (newCache capacity) (now (records .entry))) (now (out .exit)) r ⌝ }
+{
+    let mut keys = [0u64; 256];
+    let mut freqs = [0u64; 256];
+    let mut epochs = [0u64; 256];
+    let mut prevs = [0u64; 256];
+    let mut nexts = [0u64; 256];
+    let mut arena = [0u64; 256];
+    let mut index = [0u64; 512];
+    let mut buckets = [0u64; 1536];
+    let mut spares = [0u64; 256];
+    let mut values = [0u64; 256];
+    let twice = capacity + capacity;
+    let words = capacity * WORDS as usize;
+    afresh(
+        &mut keys[..capacity],
+        &mut freqs[..capacity],
+        &mut epochs[..capacity],
+        &mut prevs[..capacity],
+        &mut nexts[..capacity],
+        &mut arena[..capacity],
+        &mut index[..twice],
+        &mut buckets[..words],
+        &mut spares[..capacity],
+        &mut values[..capacity],
+        capacity as u64,
+        records,
+        out,
+    )
+}
+
+// Prints a whole input that is shorter than a full part.
+pub fn whole(input: &[u8], n: usize, out: &mut [u8]) -> usize
+    requires { ⌜ (n < PART) × (n ≤ length (now input)) × (n * PRINT + LONGEST ≤ length (now out)) ⌝ }
+    ensures { λ r. ⌜ InputShows (output (take n (now (input .entry)))) (now (out .exit)) r ⌝ }
+{
+    if n < 2 {
+        return write(out, 0, Line::Plain(Word::Cut));
+    }
+    let capacity = two_bytes(input[0], input[1]);
+    if capacity > 256 {
+        return write(out, 0, Line::Plain(Word::Capacity));
+    }
+    start(capacity, &input[2..n], out)
+}
