@@ -180,14 +180,14 @@ pub fn pop_min(
         (after keys freqs epochs prevs nexts arena index buckets spares) (r .state) ⌝ }
 {
     let slot = levels::sound::lowest(&buckets[..], state.buckets);
-    if slot == NONE {
+    if slot.0 == NONE {
         return Popped {
             answer: Least::Refused(Answer::Empty),
             state: state,
         };
     }
-    let key = Key(keys[slot as usize]);
-    let frequency = Frequency(freqs[slot as usize]);
+    let key = Key(keys[slot.0 as usize]);
+    let frequency = Frequency(freqs[slot.0 as usize]);
     let after = buckets_tables::sound::let_go(
         keys,
         freqs,
@@ -199,7 +199,7 @@ pub fn pop_min(
         buckets,
         spares,
         state,
-        Slot(slot),
+        slot,
     );
     Popped {
         answer: Least::Is(key, frequency),

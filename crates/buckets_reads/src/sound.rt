@@ -87,10 +87,10 @@ pub fn peek_min(keys: &[u64], freqs: &[u64], buckets: &[u64], state: State) -> L
     ensures { λ r. ⌜ OfLeast (now (keys .entry)) (now (freqs .entry)) (now (buckets .entry)) state ledger.peekMin (leastReply r) ⌝ }
 {
     let slot = levels::sound::lowest(buckets, state.buckets);
-    if slot == NONE {
+    if slot.0 == NONE {
         return Least::Refused(Answer::Empty);
     }
-    let key = Key(keys[slot as usize]);
-    let frequency = Frequency(freqs[slot as usize]);
+    let key = Key(keys[slot.0 as usize]);
+    let frequency = Frequency(freqs[slot.0 as usize]);
     Least::Is(key, frequency)
 }

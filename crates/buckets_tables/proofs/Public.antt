@@ -2,19 +2,21 @@
 use mathlib.Core.Path.{_≡_, ap}
 use mathlib.Core.Bool.{Bool, true, false}
 use mathlib.Core.Logic.{_↔_, _⊎_, inl, inr}
+use Prim.Native.Nat.{ℕ}
 use Rattle.numbers.specs.declared.Answer.{Answer}
 use Rattle.numbers.specs.declared.Answer.the-variants.{Done}
-use Rattle.ledger.specs.Ledger.{Ledger}
+use Rattle.ledger.specs.Ledger.{Ledger, new}
 use Rattle.ledger.specs.Buckets.{Reply, refused}
 use Rattle.ledger.specs.Calls.{Query, BucketCall, Ask, calls, asks}
 use Rattle.ledger.proofs.Kept.{queries-leave}
 use Rattle.promise.specs.Promise.{Sound, Does, Tells, Makes, Answers, Checks}
-use Rattle.promise.proofs.Agree.{Agree, promised-agree}
+use Rattle.promise.specs.Making.{Made}
+use Rattle.promise.proofs.Agree.{Agree, promised-agree, made-agree}
 use Rattle.promise.proofs.Promises as keeps
 use Rattle.buckets_tables.specs.declared.State.{State}
 use Rattle.buckets_tables.specs.Tables.{Tables}
 use Rattle.buckets_tables.specs.Holds.{Holds}
-use Rattle.buckets_tables.specs.Lent.{buckets}
+use Rattle.buckets_tables.specs.Lent.{buckets, nothing}
 use Rattle.buckets_tables.proofs.Read.{holds-one}
 use Rattle.buckets_tables.proofs.Determined.{Same, determined}
 
@@ -61,4 +63,11 @@ pub makes-agree : (call : BucketCall) (t : Tables) (s : State) (r q : Reply) (t'
     Makes buckets call t s r t' s' → Makes buckets call t s q u' z' → MakesAgree r t' s' q u' z'
 makes-agree call t s r q t' u' s' z' x y =
     let a = promised-agree buckets holds-one (calls call) t s r q t' u' s' z' x y in
+    record { agree = a; same = same-after t' u' s' z' (a .after) }
+
+-- And two results of making tables.
+pub makings-agree : (c : ℕ) (t : Tables) (r q : Reply) (t' u' : Tables) (s' z' : State) →
+    Made buckets nothing (new c) c t r t' s' → Made buckets nothing (new c) c t q u' z' → MakesAgree r t' s' q u' z'
+makings-agree c t r q t' u' s' z' x y =
+    let a = made-agree buckets holds-one nothing (new c) c t r q t' u' s' z' x y in
     record { agree = a; same = same-after t' u' s' z' (a .after) }

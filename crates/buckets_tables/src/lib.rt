@@ -80,12 +80,10 @@ impl State {
     }
 
     // The state at the next epoch; 0 comes after the largest.
-    pub fn advanced(self) -> State
+    pub fn advanced(mut self) -> State
         ensures { λ r. ⌜ r ≡ dated self (nextEpoch (self .epoch)) ⌝ }
     {
-        if self.epoch == 0xffff_ffff_ffff_ffff {
-            return self.dated(0);
-        }
-        self.dated(self.epoch + 1)
+        self.epoch = std::num::wrapping_add_u64(self.epoch, 1);
+        self
     }
 }

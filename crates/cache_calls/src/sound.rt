@@ -137,15 +137,15 @@ pub fn evict_min_freq(
         (after keys freqs epochs prevs nexts arena index buckets spares values) (r .state) ⌝ }
 {
     let slot = levels::sound::lowest(&buckets[..], state.buckets);
-    if slot == NONE {
+    if slot.0 == NONE {
         return Evicted {
             answer: LeastUsed::Refused(Answer::Empty),
             state: state,
         };
     }
-    let key = Key(keys[slot as usize]);
-    let value = values[slot as usize];
-    values[slot as usize] = 0;
+    let key = Key(keys[slot.0 as usize]);
+    let value = values[slot.0 as usize];
+    values[slot.0 as usize] = 0;
     let after = buckets_tables::sound::let_go(
         keys,
         freqs,
@@ -157,7 +157,7 @@ pub fn evict_min_freq(
         buckets,
         spares,
         state,
-        Slot(slot),
+        slot,
     );
     Evicted {
         answer: LeastUsed::Is(key, value),

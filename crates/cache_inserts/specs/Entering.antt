@@ -31,4 +31,4 @@ pub record NoRoom (t : Tables) (s : State) (key : ℕ) : Type 0 where
 -- what an insert does, once the value is stored in the slot that is answered
 abbrev pub CacheEnters : (key : ℕ) → Tables → State → Tables → Entered → Type 0
 CacheEnters key t s t' r =
-    (vs : List ℕ) (v : ℕ) → Does cache (cacheCalls (Insert key v)) (withValues t vs) s (insertionReply (r .answer)) (withValues t' (set vs (r .slot) v)) (r .state)
+    (vs : List ℕ) (v : ℕ) → Does cache (cacheCalls (Insert key v)) (withValues t vs) s (insertionReply (r .answer)) (withValues t' (set vs (r .slot .0) v)) (r .state)

@@ -39,14 +39,14 @@ fn displace(
         (nine.after keys freqs epochs prevs nexts arena index buckets spares) r ⌝ }
 {
     let slot = levels::sound::lowest(&buckets[..], state.buckets);
-    if slot == NONE {
+    if slot.0 == NONE {
         return Entered {
-            slot: NONE,
+            slot: Slot(NONE),
             answer: Insertion::Refused(Answer::Full),
             state: state,
         };
     }
-    let victim = Key(keys[slot as usize]);
+    let victim = Key(keys[slot.0 as usize]);
     let after = cache_tables::sound::replace(
         keys,
         freqs,
@@ -58,7 +58,7 @@ fn displace(
         buckets,
         spares,
         state,
-        Slot(slot),
+        slot,
         key,
     );
     Entered {
@@ -119,7 +119,7 @@ fn enter(
     let slot = placed.slot;
     let after = placed.state;
     Entered {
-        slot: slot.0,
+        slot: slot,
         answer: Insertion::New,
         state: after,
     }
@@ -172,7 +172,8 @@ pub fn insert(
             );
             let answer = entered.answer;
             let after = entered.state;
-            cache_tables::store(values, entered.slot, value);
+            let slot = entered.slot;
+            cache_tables::store(values, slot, value);
             Inserted {
                 answer: answer,
                 state: after,

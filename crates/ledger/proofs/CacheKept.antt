@@ -176,3 +176,7 @@ run-formed = run-keeps (λ c d. CacheFormed c → CacheFormed d) formed-changes
 
 pub run-capacity : (c : Cache) (as′ : List CacheCall) → afterAll c as′ .table .capacity ≡ c .table .capacity
 run-capacity = run-keeps (λ c d. d .table .capacity ≡ c .table .capacity) capacity-changes
+
+pub all-formed : (c : Cache) (as′ : List CacheCall) → CacheFormed c → CacheFormed (afterAll c as′)
+all-formed c [] w = w
+all-formed c (a ∷ as′) w = all-formed (does a c .1) as′ (does-formed c a w)

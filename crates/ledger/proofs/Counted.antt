@@ -8,9 +8,10 @@ use native.Mathlib.Omega.{arith}
 use lib.ListN.{length}
 use Rattle.lists.specs.Lists.{In}
 use Rattle.lists.proofs.Members.{in-length}
-use Rattle.ledger.specs.Ledger.{Item, items, lookup, ifFound, size, lowest}
+use Rattle.ledger.specs.Ledger.{Level, Item, items, lookup, ifFound, size, lowest}
 use Rattle.ledger.specs.Cache.{Cache, CacheFormed, newCache, Lookup, miss, Least, least, nothing, valueOf, unbind, insertFull, insertNew, insertAt, cacheInsert, cacheGet, cachePeek, cacheRemove, cacheReset, cachePeekLfu, cacheEvict, cacheClear}
 use Rattle.ledger.specs.History.{CacheCall, Insert, Get, Peek, Remove, Reset, PeekLfu, Evict, Clear, Len, Event, inserted, got, peeked, removed, reset, peekedLfu, evicted, does, log, afterAll, says, recount, countFrom, guests}
+use Rattle.ledger.specs.Demand3.{EmptyCache}
 use Rattle.ledger.proofs.Items.{found-in}
 use Rattle.ledger.proofs.Rising.{lowest-some}
 use Rattle.ledger.proofs.Slots.{size-and-free}
@@ -87,5 +88,6 @@ count-run c (a ∷ as′) w =
     count-run (does a c .1) as′ (does-formed c a w)
     ∙ ap (λ (n : ℕ). countFrom n (log (does a c .1) as′)) (count-step c w a)
 
-pub guests-counted : (n : ℕ) (as′ : List CacheCall) → size (afterAll (newCache n) as′ .table) ≡ guests (log (newCache n) as′)
-guests-counted n as′ = count-run (newCache n) as′ (newCache-formed n)
+pub guests-counted : (c : Cache) → EmptyCache c → (as′ : List CacheCall) → size (afterAll c as′ .table) ≡ guests (log c as′)
+guests-counted c e as′ =
+    count-run c as′ (e .formed) ∙ ap (λ (ls : List Level). countFrom (length (items ls)) (log c as′)) (e .nobody)

@@ -9,13 +9,13 @@ use native.Mathlib.Omega.{arith}
 use native.Mathlib.Decide.{ℕ-discrete}
 use lib.ListN.{length}
 use Rattle.ledger.specs.Ledger.{Item, items, lookup, ifFound, lowest, keyed}
-use Rattle.ledger.specs.Cache.{Cache, newCache, Lookup, hit, miss, Least, least, nothing, valueOf, unbind, insertFull, insertNew, insertAt, cacheInsert, cacheGet, cacheRemove, cacheReset, cacheEvict}
+use Rattle.ledger.specs.Cache.{Cache, Lookup, hit, miss, Least, least, nothing, valueOf, unbind, insertFull, insertNew, insertAt, cacheInsert, cacheGet, cacheRemove, cacheReset, cacheEvict}
 use Rattle.ledger.specs.History.{CacheCall, Insert, Get, Peek, Remove, Reset, PeekLfu, Evict, Clear, Len, Event, inserted, got, removed, reset, evicted, does, log, afterAll, Standing, unbound, guest, standing, Evicts}
-use Rattle.ledger.specs.Demand3.{CALLS, GoesBefore, LeastGoes, FirstSentence, IsGuest}
+use Rattle.ledger.specs.Demand3.{EmptyCache, CALLS, GoesBefore, LeastGoes, FirstSentence, IsGuest}
 use Rattle.ledger.proofs.Items.{pick}
 use Rattle.ledger.proofs.Rising.{lowest-in}
 use Rattle.ledger.proofs.Told.{Book, last, Knows, Lower, lowest-first}
-use Rattle.ledger.proofs.Runs.{Inv, knows, from-new}
+use Rattle.ledger.proofs.Runs.{Inv, knows, from-empty}
 use Rattle.ledger.proofs.Parts.{part, part-length}
 
 -- The lowest goes first
@@ -96,27 +96,27 @@ evicts-lowest Len c v h = absurd h
 
 -- The sentence
 
-of-calls : (n : ℕ) (before : List CacheCall) (call : CacheCall) → length before ≤ CALLS → (v : ℕ) →
-    Evicts (does call (afterAll (newCache n) before) .0) v → LeastGoes (log (newCache n) before) v
-of-calls n before call l v h =
-    let i = from-new n before l in
-    let c = afterAll (newCache n) before in
-    let b : Book = λ k. standing k (log (newCache n) before) in
+of-calls : (start : Cache) → EmptyCache start → (before : List CacheCall) (call : CacheCall) → length before ≤ CALLS → (v : ℕ) →
+    Evicts (does call (afterAll start before) .0) v → LeastGoes (log start before) v
+of-calls start nobody before call l v h =
+    let i = from-empty start nobody before l in
+    let c = afterAll start before in
+    let b : Book = λ k. standing k (log start before) in
     let x = evicts-lowest call c v h in
-    let w = lowest-goes n (0 + length before) b c i (x .0) (x .1) in
+    let w = lowest-goes (start .table .capacity) (0 + length before) b c i (x .0) (x .1) in
     record {
       wasBound = subst (λ (m : ℕ). IsGuest (b m)) (sym (x .2)) (w .0);
       first = λ k q d. subst (λ (m : ℕ). GoesBefore (b m) (b k)) (sym (x .2)) (w .1 k q (λ e. d (e ∙ sym (x .2))));
     }
 
 pub first-sentence : FirstSentence
-first-sentence n pos as′ l before now rest e v h =
-    let r = part before (now ∷ rest) (newCache n) as′ e in
+first-sentence start nobody pos as′ l before now rest e v h =
+    let r = part before (now ∷ rest) start as′ e in
     subst (λ z. LeastGoes z v) (r .log-first)
     (go (r .first) (r .second) (part-length CALLS as′ (r .first) (r .second) (r .calls) l) (r .log-second))
   where
-    go : (bs cs : List CacheCall) → length bs + length cs ≤ CALLS → log (afterAll (newCache n) bs) cs ≡ now ∷ rest → LeastGoes (log (newCache n) bs) v
+    go : (bs cs : List CacheCall) → length bs + length cs ≤ CALLS → log (afterAll start bs) cs ≡ now ∷ rest → LeastGoes (log start bs) v
     go bs [] f q = let z : _≡_ {A = ℕ} 0 1 = cc in absurd (omega arith)
     go bs (a ∷ cs) f q =
-        let p : now ≡ does a (afterAll (newCache n) bs) .0 = cc in
-        of-calls n bs a (omega arith) v (subst (λ z. Evicts z v) p h)
+        let p : now ≡ does a (afterAll start bs) .0 = cc in
+        of-calls start nobody bs a (omega arith) v (subst (λ z. Evicts z v) p h)

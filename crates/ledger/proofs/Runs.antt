@@ -15,11 +15,11 @@ use Rattle.lists.proofs.Members.{all-in}
 use Rattle.ledger.specs.Ledger.{Entry, Item, item, items, lookup, ifFound, lowest, keyed}
 use Rattle.ledger.specs.Cache.{Cache, CacheFormed, newCache, Lookup, miss, Least, least, nothing, bind, unbind, moved, valueOf, insertFull, insertNew, insertAt, cacheInsert, cacheGet, cachePeek, cacheRemove, cacheReset, cachePeekLfu, cacheEvict, cacheClear}
 use Rattle.ledger.specs.History.{CacheCall, Insert, Get, Peek, Remove, Reset, PeekLfu, Evict, Clear, Len, Event, inserted, got, peeked, removed, reset, peekedLfu, evicted, does, log, afterAll, says, Standing, unbound, guest, struck, next, follow, standing}
-use Rattle.ledger.specs.Demand3.{CALLS}
+use Rattle.ledger.specs.Demand3.{EmptyCache, CALLS}
 use Rattle.ledger.proofs.Items.{found-in, found-none, place, cut, items-unlink, items-link, keyed-cut-same}
 use Rattle.ledger.proofs.Rising.{lowest-in}
 use Rattle.ledger.proofs.Changes.{fresh-after, fresh-again, items-move}
-use Rattle.ledger.proofs.CacheKept.{newCache-formed, bind-formed, unbind-formed, moved-formed, stored-formed}
+use Rattle.ledger.proofs.CacheKept.{newCache-formed, all-formed, bind-formed, unbind-formed, moved-formed, stored-formed}
 use Rattle.ledger.proofs.Told.{Book, write, Knows, Told, told-cut, told-later, told-place}
 
 -- after `now` calls, when the history says b of each key, in a cache of capacity n
@@ -31,12 +31,16 @@ pub record Inv (n now : ℕ) (b : Book) (c : Cache) : Type 0 where
 inv-same : (n now : ℕ) (b d : Book) (c : Cache) → ((k : ℕ) → b k ≡ d k) → Inv n now b c → Inv n now d c
 inv-same n now b d c e v = subst (λ z. Inv n now z c) (fun-ext e) v
 
-pub inv-new : (n now : ℕ) → Inv n now (λ k. unbound) (newCache n)
-inv-new n now = record {
-  formed = newCache-formed n;
-  told = record { each = tt; others = λ k h. refl; ordered = tt };
+-- an empty cache agrees with a history that tells of no guest
+pub inv-empty : (c : Cache) (now : ℕ) → EmptyCache c → Inv (c .table .capacity) now (λ k. unbound) c
+inv-empty c now e = record {
+  formed = e .formed;
+  told = subst (λ ls. Told now (λ k. unbound) (items ls)) (sym (e .nobody)) (record { each = tt; others = λ k h. refl; ordered = tt });
   capacity = refl;
 }
+
+pub new-empty : (n : ℕ) → EmptyCache (newCache n)
+new-empty n = record { formed = newCache-formed n; nobody = refl }
 
 write-twice : (b : Book) (k : ℕ) (s t : Standing) (j : ℕ) → write (write b k s) k t j ≡ write b k t j
 write-twice b k s t j = go (eqb j k)
@@ -174,7 +178,7 @@ module _ (n now : ℕ) (b : Book) (c : Cache) (v : Inv n now b c) where
   step (Reset k) l = asked-step k (reset k) _ refl (λ x e. reset-step k x e) (lookup k (c .table)) refl
   step PeekLfu l = peekLfu-step (lowest (c .table .levels))
   step Evict l = evict-step (lowest (c .table .levels)) refl
-  step Clear l = subst (λ (m : ℕ). Inv n (now + 1) (λ j. unbound) (newCache m)) (sym (v .capacity)) (inv-new n (now + 1))
+  step Clear l = subst (λ (m : ℕ). Inv n (now + 1) (λ j. unbound) (newCache m)) (sym (v .capacity)) (inv-empty (newCache n) (now + 1) (new-empty n))
   step Len l = inv-later n now b c v
 
 -- Any sequence
@@ -187,6 +191,14 @@ run n now b c (a ∷ as′) v l =
     subst (λ (m : ℕ). Inv n m (λ k. follow k (now + 1) (next k now (says (does a c .0)) (b k)) (log (does a c .1) as′)) (afterAll (does a c .1) as′)) e
     (run n (now + 1) (λ k. next k now (says (does a c .0)) (b k)) (does a c .1) as′ (step n now b c v a (omega arith)) (omega arith))
 
-pub from-new : (n : ℕ) (as′ : List CacheCall) → length as′ ≤ CALLS →
-    Inv n (0 + length as′) (λ k. standing k (log (newCache n) as′)) (afterAll (newCache n) as′)
-from-new n as′ l = run n 0 (λ k. unbound) (newCache n) as′ (inv-new n 0) (omega arith)
+pub from-empty : (c : Cache) → EmptyCache c → (as′ : List CacheCall) → length as′ ≤ CALLS →
+    Inv (c .table .capacity) (0 + length as′) (λ k. standing k (log c as′)) (afterAll c as′)
+from-empty c e as′ l = run (c .table .capacity) 0 (λ k. unbound) c as′ (inv-empty c 0 e) (omega arith)
+
+-- A cache is empty again after a clear, and whenever its last guest has left: demand 3 then starts anew.
+pub clear-empties : (c : Cache) → EmptyCache (cacheClear c)
+unfolding cacheClear
+clear-empties c = new-empty (c .table .capacity)
+
+pub empty-again : (c : Cache) → EmptyCache c → (as′ : List CacheCall) → afterAll c as′ .table .levels ≡ [] → EmptyCache (afterAll c as′)
+empty-again c e as′ q = record { formed = all-formed c as′ (e .formed); nobody = q }

@@ -13,13 +13,13 @@ use lib.Dec.{eqb}
 use lib.ListN.{length, length-append}
 use Rattle.lists.proofs.Tests.{if-same, if-other}
 use Rattle.ledger.specs.Ledger.{Item, items, lookup, lowest}
-use Rattle.ledger.specs.Cache.{Cache, newCache, Insertion, fresh, freshOut, old, full, insertFull, insertNew, insertAt, cacheInsert}
+use Rattle.ledger.specs.Cache.{Cache, Insertion, fresh, freshOut, old, full, insertFull, insertNew, insertAt, cacheInsert}
 use Rattle.ledger.specs.History.{CacheCall, Insert, Get, Peek, Remove, Reset, PeekLfu, Evict, Clear, Len, inserted, does, log, afterAll, says, Standing, unbound, guest, next, standing, Evicts, EvictedIn}
-use Rattle.ledger.specs.Demand3.{CALLS, HasHits, NoHits, GoesBefore, OnlyInserts, Spares, SecondSentence, IsGuest}
+use Rattle.ledger.specs.Demand3.{EmptyCache, CALLS, HasHits, NoHits, GoesBefore, OnlyInserts, Spares, SecondSentence, IsGuest}
 use Rattle.ledger.proofs.Items.{found-none}
 use Rattle.ledger.proofs.Slots.{size-and-free}
 use Rattle.ledger.proofs.Told.{Book}
-use Rattle.ledger.proofs.Runs.{Inv, step, from-new}
+use Rattle.ledger.proofs.Runs.{Inv, step, from-empty}
 use Rattle.ledger.proofs.Parts.{part, part-length}
 use Rattle.ledger.proofs.FirstSentence.{lowest-goes}
 use Rattle.ledger.proofs.Counted.{guests-counted}
@@ -192,18 +192,19 @@ one-run n now b c (p ∷ ps) v l i j h q r t =
 
 -- The sentence
 
-of-calls : (n : ℕ) (before : List CacheCall) (ps : List (ℕ × ℕ)) → length before + length (insertsOf ps) ≤ CALLS →
-    Spares n (log (newCache n) before) (log (afterAll (newCache n) before) (insertsOf ps))
-of-calls n before ps l =
-    let v = from-new n before (omega arith) in
-    let c = afterAll (newCache n) before in
-    let b : Book = λ k. standing k (log (newCache n) before) in
+of-calls : (start : Cache) → EmptyCache start → (before : List CacheCall) (ps : List (ℕ × ℕ)) → length before + length (insertsOf ps) ≤ CALLS →
+    Spares (start .table .capacity) (log start before) (log (afterAll start before) (insertsOf ps))
+of-calls start nobody before ps l =
+    let n = start .table .capacity in
+    let v = from-empty start nobody before (omega arith) in
+    let c = afterAll start before in
+    let b : Book = λ k. standing k (log start before) in
     let l′ : 0 + length before + length (insertsOf ps) ≤ CALLS = omega arith in
     record {
       atMostOne = one-run n (0 + length before) b c ps v l′;
       noneIfRoom = λ room g h r.
           let count = size-and-free (c .table) (v .formed .table) in
-          let told-count = guests-counted n before in
+          let told-count = guests-counted start nobody before in
           let cap = v .capacity in
           soft-run n (0 + length before) b c ps v l′ (inl (λ f. let z = ap length f in absurd (omega arith))) g h r;
       noneIfIdle = λ j q g h r. soft-run n (0 + length before) b c ps v l′ (inr (j, q)) g h r;
@@ -224,16 +225,17 @@ inserts-only c (Clear ∷ as′) h = absurd (h .0)
 inserts-only c (Len ∷ as′) h = absurd (h .0)
 
 pub second-sentence : SecondSentence
-second-sentence n pos as′ l before inserts rest e h =
-    let r = part before (inserts ++ rest) (newCache n) as′ e in
+second-sentence start nobody pos as′ l before inserts rest e h =
+    let n = start .table .capacity in
+    let r = part before (inserts ++ rest) start as′ e in
     let f = part-length CALLS as′ (r .first) (r .second) (r .calls) l in
-    let c = afterAll (newCache n) (r .first) in
+    let c = afterAll start (r .first) in
     let t = part inserts rest c (r .second) (r .log-second) in
     let g = length-append (t .first) (t .second) in
     let g′ = ap length (t .calls) in
     let p = inserts-only c (t .first) (subst OnlyInserts (sym (t .log-first)) h) in
     let q = ap length (p .1) in
-    let s = of-calls n (r .first) (p .0) (omega arith) in
+    let s = of-calls start nobody (r .first) (p .0) (omega arith) in
     subst (λ z. Spares n z inserts) (r .log-first)
-    (subst (λ z. Spares n (log (newCache n) (r .first)) z) (t .log-first)
-    (subst (λ z. Spares n (log (newCache n) (r .first)) (log c z)) (sym (p .1)) s))
+    (subst (λ z. Spares n (log start (r .first)) z) (t .log-first)
+    (subst (λ z. Spares n (log start (r .first)) (log c z)) (sym (p .1)) s))

@@ -4,8 +4,13 @@ use mathlib.Core.Logic.{_⊎_, _≢_}
 use mathlib.Core.List.{List, [], _∷_, _++_}
 use Prim.Native.Nat.{ℕ, _≤_, _<_, _^_, _-_}
 use lib.ListN.{length}
-use Rattle.ledger.specs.Cache.{newCache}
+use Rattle.ledger.specs.Cache.{Cache, CacheFormed}
 use Rattle.ledger.specs.History.{CacheCall, Event, inserted, got, peeked, removed, reset, peekedLfu, evicted, cleared, measured, log, Standing, unbound, guest, standing, guests, Evicts, EvictedIn}
+
+-- an empty cache: no key is bound, whatever its free order and its epoch are
+pub record EmptyCache (c : Cache) : Type 0 where
+  pub formed : CacheFormed c
+  pub nobody : c .table .levels ≡ []
 
 -- at most so many single cache calls
 abbrev pub CALLS : ℕ
@@ -38,8 +43,8 @@ pub record LeastGoes (before : List Event) (v : ℕ) : Type 0 where
 -- any of them: whoever that call evicts has the fewest hits since it was last bound, and among those the oldest last hit or binding.
 abbrev pub FirstSentence : Type 0
 FirstSentence =
-    (capacity : ℕ) → 1 ≤ capacity → (calls : List CacheCall) → length calls ≤ CALLS →
-    (before : List Event) (now : Event) (rest : List Event) → log (newCache capacity) calls ≡ before ++ (now ∷ rest) →
+    (start : Cache) → EmptyCache start → 1 ≤ start .table .capacity → (calls : List CacheCall) → length calls ≤ CALLS →
+    (before : List Event) (now : Event) (rest : List Event) → log start calls ≡ before ++ (now ∷ rest) →
     (v : ℕ) → Evicts now v → LeastGoes before v
 
 -- inserts alone
@@ -68,6 +73,6 @@ pub record Spares (capacity : ℕ) (before inserts : List Event) : Type 0 where
 -- Second sentence. In any run of inserts alone within such a sequence.
 abbrev pub SecondSentence : Type 0
 SecondSentence =
-    (capacity : ℕ) → 1 ≤ capacity → (calls : List CacheCall) → length calls ≤ CALLS →
-    (before inserts rest : List Event) → log (newCache capacity) calls ≡ before ++ (inserts ++ rest) → OnlyInserts inserts →
-    Spares capacity before inserts
+    (start : Cache) → EmptyCache start → 1 ≤ start .table .capacity → (calls : List CacheCall) → length calls ≤ CALLS →
+    (before inserts rest : List Event) → log start calls ≡ before ++ (inserts ++ rest) → OnlyInserts inserts →
+    Spares (start .table .capacity) before inserts

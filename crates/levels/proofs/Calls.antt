@@ -87,6 +87,13 @@ left-ready t s x t₁ o d b = record {
   away = d .gone (b .us) (b .freq) (b .xs) (b .ys) (b .vs) (b .held);
 }
 
+-- what `capped` tells: a level that stays is at the cap or above, one that does not goes one up
+pub stays-at-cap : (cap f n : ℕ) → n ≡ raised cap f → n ≡ f → cap ≤ f
+stays-at-cap cap f n e q = by-lt f cap (λ l. absurd (omega (arith, e ∙ if-less f cap (f + 1) f l))) (λ l. l)
+
+pub goes-up : (cap f n : ℕ) → n ≡ raised cap f → n ≢ f → (f < cap) × (n ≡ f + 1)
+goes-up cap f n e q = by-lt f cap (λ l. (l, e ∙ if-less f cap (f + 1) f l)) (λ l. absurd (q (e ∙ if-not-less f cap (f + 1) f l)))
+
 module _ (t : Tabs) (s : Buckets) (x cap r : ℕ) (er : r ≡ owner (t .buckets) x) (f₀ : Frequency) (ef : f₀ .0 ≡ frequency (t .buckets) r) where
   -- the frequency that was read is the level's
   is-level : (us : List Level) (f : ℕ) (xs ys : List ℕ) (vs : List Level) → Held t s (us ++ level f (xs ++ x ∷ ys) ∷ vs) → f₀ .0 ≡ f
@@ -102,7 +109,7 @@ module _ (t : Tabs) (s : Buckets) (x cap r : ℕ) (er : r ≡ owner (t .buckets)
         rw (if-not-less f cap (keep f (xs ++ ys) (join x (f + 1) vs)) (level f (x ∷ (xs ++ ys)) ∷ vs) (omega arith)) (d .holds (t .freqs) (t .spares) s us f xs ys vs er h);
   }
 
-  module _ (low : f₀ .0 < cap) (big : cap ≤ CEILING) (f₁ : Frequency) (e₁ : f₁ .0 ≡ f₀ .0 + 1) where
+  module _ (low : f₀ .0 < cap) (f₁ : Frequency) (e₁ : f₁ .0 ≡ f₀ .0 + 1) (big : f₁ .0 ≤ CEILING) where
     answers : (us : List Level) (f : ℕ) (xs ys : List ℕ) (vs : List Level) → Held t s (us ++ level f (xs ++ x ∷ ys) ∷ vs) → f₁ .0 ≡ raised cap f
     answers us f xs ys vs h = let e = is-level us f xs ys vs h in e₁ ∙ ap (λ (k : ℕ). k + 1) e ∙ sym (if-less f cap (f + 1) f (omega arith))
 

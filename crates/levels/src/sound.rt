@@ -161,14 +161,14 @@ pub fn touch(
 {
     let number = bucket_table::sound::owner(&buckets[..], slot);
     let f = bucket_table::sound::frequency(&buckets[..], number);
-    if f.0 >= cap.0 {
+    let raised = f.capped(cap);
+    if raised.0 == f.0 {
         front(prevs, nexts, buckets, number, slot);
         return Touched {
             frequency: f,
             state: state,
         };
     }
-    let raised = Frequency(f.0 + 1);
     if in_place(&buckets[..], state, number, raised) {
         lift(freqs, buckets, number, raised, slot);
         return Touched {
@@ -243,16 +243,16 @@ pub fn unbind(
 }
 
 // The slot at the tail of the lowest level, NONE where there is no level.
-pub fn lowest(buckets: &[u64], state: Buckets) -> u64
+pub fn lowest(buckets: &[u64], state: Buckets) -> Slot
     requires { ⌜ SoundWith (now buckets) state ⌝ }
-    ensures { λ r. ⌜ Lowest (now (buckets .entry)) state r ⌝ }
+    ensures { λ r. ⌜ Lowest (now (buckets .entry)) state (r .0) ⌝ }
 {
     let number = state.bottom;
     if number == NONE {
-        return NONE;
+        return Slot(NONE);
     }
     let ends = bucket_table::sound::ends(buckets, number);
-    ends.tail
+    Slot(ends.tail)
 }
 
 // The lowest frequency in use, 0 where there is no level.

@@ -27,21 +27,24 @@ impl Frequency {
     // The level above which no guest rises.
     pub const CEILING: Frequency = Frequency(0xffff_ffff_ffff_ffff);
 
-    // A hit: one level up, unless the level is at or above the cap.
-    fn raised(self, cap: Frequency) -> Frequency
-        ensures { λ r. ⌜ r .0 ≡ raised (cap .0) (self .0) ⌝ }
+    // One level up, but never past the ceiling.
+    pub fn next(self) -> Frequency
+        ensures { λ r. ⌜ r .0 ≡ raised CEILING (self .0) ⌝ }
     {
-        if self.0 < cap.0 {
+        if self.0 < 0xffff_ffff_ffff_ffff {
             return Frequency(self.0 + 1);
         }
         self
     }
 
-    // One level up, but never past the ceiling.
-    pub fn next(self) -> Frequency
-        ensures { λ r. ⌜ r .0 ≡ raised CEILING (self .0) ⌝ }
+    // One level up while below the cap; a level at or above the cap stays.
+    pub fn capped(self, cap: Frequency) -> Frequency
+        ensures { λ r. ⌜ r .0 ≡ raised (cap .0) (self .0) ⌝ }
     {
-        self.raised(Frequency::CEILING)
+        if self.0 < cap.0 {
+            return self.next();
+        }
+        self
     }
 
     // Half of the level, rounded down, but never below the first.
@@ -63,13 +66,6 @@ impl Frequency {
             return Frequency::FIRST;
         }
         self
-    }
-
-    // One level up while below the cap; a level at or above the cap stays.
-    pub fn capped(self, cap: Frequency) -> Frequency
-        ensures { λ r. ⌜ r .0 ≡ raised (capOf (cap .0)) (self .0) ⌝ }
-    {
-        self.raised(cap.as_cap())
     }
 }
 

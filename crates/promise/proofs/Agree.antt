@@ -1,13 +1,13 @@
 -- A promise leaves no choice: what is read from tables and state is one thing, and two results that a promise allows give the same
--- reply, and either leave everything as it was or hold the same ledger.
+-- reply, and either leave everything as it was or hold the same ledger. A kind of tables that holds one ledger at most is all that is asked.
 use mathlib.Core.Path.{_≡_, refl, sym, ap, _∙_, subst}
 use mathlib.Core.Logic.{_⊎_, inl, inr}
 use Prim.Native.Nat.{ℕ}
 use native.Mathlib.Omega.{arith}
 use Rattle.numbers.specs.declared.Answer.{Answer}
 use Rattle.ledger.specs.Buckets.{Reply}
-use Rattle.promise.specs.Promise.{Lent, Reading, over, short, corrupt, ledger, Reads, Refuses, By, Promised}
-use Rattle.promise.specs.Making.{Sizing, tooLarge, tooShort, fitting, Sizes, MadeBy, Made}
+use Rattle.promise.specs.Promise.{Lent, Reading, over, short, corrupt, ledger, Reads, Refuses, By, Promised, whyOf, Checks}
+use Rattle.promise.specs.Making.{Sizing, tooLarge, tooShort, fitting, Sizes, sizeAnswer, Measures, MadeBy, Made}
 
 module _ (k : Lent) (one : (t : k .Tables) (s : k .State) (l m : k .Ledger) → k .Holds t s l → k .Holds t s m → l ≡ m) where
   pub reads-one : (t : k .Tables) (s : k .State) (v w : Reading k) → Reads k t s v → Reads k t s w → v ≡ w
@@ -73,3 +73,10 @@ module _ (k : Lent) (one : (t : k .Tables) (s : k .State) (l m : k .Ledger) → 
       Made k none l c t r t' s' → Made k none l c t q u' z' → Agree r t' s' q u' z'
   made-agree none l c t r q t' u' s' z' a b =
       made-by-agree none l t (a .0) r q t' u' s' z' (a .2) (subst (MadeBy k none l t q u' z') (sizes-one t c (b .0) (a .0) (b .1) (a .1)) (b .2))
+
+  -- And what a check of the tables, or a look at their lengths, answers.
+  pub checks-agree : (t : k .Tables) (s : k .State) (a b : Answer) → Checks k t s a → Checks k t s b → a ≡ b
+  checks-agree t s a b c d = c .2 ∙ ap (whyOf k) (reads-one t s (c .0) (d .0) (c .1) (d .1)) ∙ sym (d .2)
+
+  pub measures-agree : (t : k .Tables) (c : ℕ) (a b : Answer) → Measures k t c a → Measures k t c b → a ≡ b
+  measures-agree t c a b m n = m .2 ∙ ap (sizeAnswer k) (sizes-one t c (m .0) (n .0) (m .1) (n .1)) ∙ sym (n .2)

@@ -33,10 +33,10 @@ pub fn peek_lfu(keys: &[u64], buckets: &[u64], values: &[u64], state: State) -> 
         (now (keys .entry)) (now (buckets .entry)) (now (values .entry)) state (cacheCalls PeekLfu) (leastUsedReply r) ⌝ }
 {
     let slot = levels::sound::lowest(buckets, state.buckets);
-    if slot == NONE {
+    if slot.0 == NONE {
         return LeastUsed::Refused(Answer::Empty);
     }
-    let key = Key(keys[slot as usize]);
-    let value = values[slot as usize];
+    let key = Key(keys[slot.0 as usize]);
+    let value = values[slot.0 as usize];
     LeastUsed::Is(key, value)
 }

@@ -13,22 +13,22 @@ same-length : tie.Need-same-length
 same-length c = refl
 
 returns : tie.Need-returns
-returns c = doing.pop-empty _ _ _ (λ l h. c .before .lowest .ensures .answer _ _ _ _ _ (h .lists)) (c .if1 .taken)
+returns c = doing.pop-empty _ _ _ (λ l h. c .before .before .lowest .ensures .answer _ _ _ _ _ (h .lists)) (c .if1 .taken)
 
 mul-t21 : tie.Need-mul-t21
-mul-t21 c = let limit = asked.slot-limit _ _ _ (doing.pop-bound _ _ _ (λ l h. c .before .lowest .ensures .answer _ _ _ _ _ (h .lists)) (c .if1 .left) (c .before .before .before .before .before .before .before .before .before .before .before .before .pre)) in search needs
+mul-t21 c = let limit = asked.slot-limit _ _ _ (doing.pop-bound _ _ _ (λ l h. c .before .before .lowest .ensures .answer _ _ _ _ _ (h .lists)) (c .if1 .left) (c .before .before .before .before .before .before .before .before .before .before .before .before .before .pre)) in search needs
 
 slice-read-t23 : tie.Need-slice-read-t23
-slice-read-t23 c = asked.slot-sized _ _ _ (doing.pop-bound _ _ _ (λ l h. c .before .before .lowest .ensures .answer _ _ _ _ _ (h .lists)) (c .before .if1 .left) (c .before .before .before .before .before .before .before .before .before .before .before .before .before .pre)) .0
+slice-read-t23 c = asked.slot-sized _ _ _ (doing.pop-bound _ _ _ (λ l h. c .before .before .before .lowest .ensures .answer _ _ _ _ _ (h .lists)) (c .before .if1 .left) (c .before .before .before .before .before .before .before .before .before .before .before .before .before .before .pre)) .0
 
 mul-t21-2 : tie.Need-mul-t21-2
-mul-t21-2 c = let limit = asked.slot-limit _ _ _ (doing.pop-bound _ _ _ (λ l h. c .before .before .lowest .ensures .answer _ _ _ _ _ (h .lists)) (c .before .if1 .left) (c .before .before .before .before .before .before .before .before .before .before .before .before .before .pre)) in search needs
+mul-t21-2 c = let limit = asked.slot-limit _ _ _ (doing.pop-bound _ _ _ (λ l h. c .before .before .before .lowest .ensures .answer _ _ _ _ _ (h .lists)) (c .before .if1 .left) (c .before .before .before .before .before .before .before .before .before .before .before .before .before .before .pre)) in search needs
 
 slice-read-t23-2 : tie.Need-slice-read-t23-2
-slice-read-t23-2 c = asked.slot-sized _ _ _ (doing.pop-bound _ _ _ (λ l h. c .before .before .before .lowest .ensures .answer _ _ _ _ _ (h .lists)) (c .before .before .if1 .left) (c .before .before .before .before .before .before .before .before .before .before .before .before .before .before .pre)) .3
+slice-read-t23-2 c = asked.slot-sized _ _ _ (doing.pop-bound _ _ _ (λ l h. c .before .before .before .before .lowest .ensures .answer _ _ _ _ _ (h .lists)) (c .before .before .if1 .left) (c .before .before .before .before .before .before .before .before .before .before .before .before .before .before .before .pre)) .3
 
 let-go-requires : tie.Need-let-go-requires
-let-go-requires c κs = doing.pop-bound _ _ _ (λ l h. c .before .before .before .before .before .before .before .before .before .before .before .before .lowest .ensures .answer _ _ _ _ _ (h .lists)) (c .before .before .before .before .before .before .before .before .before .before .before .if1 .left) (c .before .before .before .before .before .before .before .before .before .before .before .before .before .before .before .before .before .before .before .before .before .before .before .pre)
+let-go-requires c κs = doing.pop-bound _ _ _ (λ l h. c .before .before .before .before .before .before .before .before .before .before .before .before .before .lowest .ensures .answer _ _ _ _ _ (h .lists)) (c .before .before .before .before .before .before .before .before .before .before .before .if1 .left) (c .before .before .before .before .before .before .before .before .before .before .before .before .before .before .before .before .before .before .before .before .before .before .before .before .pre)
 
 same-length-2 : tie.Need-same-length-2
 same-length-2 c = c .before .before .before .before .before .before .before .before .before .before .before .before .before .before .before .before .before .before .let-go .kept .0
@@ -58,7 +58,7 @@ same-length-10 : tie.Need-same-length-10
 same-length-10 c = c .before .before .before .before .before .before .before .before .before .before .before .before .before .before .before .before .before .before .let-go .kept .1 .1 .1 .1 .1 .1 .1 .1 .0
 
 returns-2 : tie.Need-returns-2
-returns-2 c = doing.pop-done _ _ _ (λ l h. c .before .before .before .before .before .before .before .before .before .before .before .before .before .before .before .before .before .before .before .before .before .before .before .before .before .before .before .before .before .before .before .lowest .ensures .answer _ _ _ _ _ (h .lists)) (c .before .before .before .before .before .before .before .before .before .before .before .before .before .before .before .before .before .before .before .before .before .before .before .before .before .before .before .before .before .before .if1 .left) _ _ refl refl _ _ (c .before .before .before .before .before .before .before .before .before .before .before .before .before .before .before .before .before .before .let-go .ensures)
+returns-2 c = doing.pop-done _ _ _ (λ l h. c .before .before .before .before .before .before .before .before .before .before .before .before .before .before .before .before .before .before .before .before .before .before .before .before .before .before .before .before .before .before .before .before .lowest .ensures .answer _ _ _ _ _ (h .lists)) (c .before .before .before .before .before .before .before .before .before .before .before .before .before .before .before .before .before .before .before .before .before .before .before .before .before .before .before .before .before .before .if1 .left) _ _ refl refl _ _ (c .before .before .before .before .before .before .before .before .before .before .before .before .before .before .before .before .before .before .let-go .ensures)
 
 pub pop-min-spec : {M : Type 1} → statement M
 pop-min-spec =

@@ -13,28 +13,28 @@ same-length : tie.Need-same-length
 same-length c = search needs
 
 returns : tie.Need-returns
-returns c = caching.evict-miss _ _ _ (caching.missed-least _ _ _ (λ l h. c .before .lowest .ensures .answer _ _ _ _ _ (h .lists)) (c .if1 .taken))
+returns c = caching.evict-miss _ _ _ (caching.missed-least _ _ _ (λ l h. c .before .before .lowest .ensures .answer _ _ _ _ _ (h .lists)) (c .if1 .taken))
 
 mul-value : tie.Need-mul-value
-mul-value c = let below = asking.value-sized _ _ _ _ (caching.sought-least _ _ _ (λ l h. c .before .lowest .ensures .answer _ _ _ _ _ (h .lists)) (c .if1 .left)) _ (c .before .before .before .before .before .before .before .before .before .before .before .before .before .pre) .1 in search needs
+mul-value c = let below = asking.value-sized _ _ _ _ (caching.sought-least _ _ _ (λ l h. c .before .before .lowest .ensures .answer _ _ _ _ _ (h .lists)) (c .if1 .left)) _ (c .before .before .before .before .before .before .before .before .before .before .before .before .before .before .pre) .1 in search needs
 
 slice-read-value : tie.Need-slice-read-value
-slice-read-value c = asked.slot-sized _ _ _ (asking.sought-bound _ _ _ _ (caching.sought-least _ _ _ (λ l h. c .before .before .lowest .ensures .answer _ _ _ _ _ (h .lists)) (c .before .if1 .left)) (asking.base-sound _ _ (c .before .before .before .before .before .before .before .before .before .before .before .before .before .before .pre))) .0
+slice-read-value c = asked.slot-sized _ _ _ (asking.sought-bound _ _ _ _ (caching.sought-least _ _ _ (λ l h. c .before .before .before .lowest .ensures .answer _ _ _ _ _ (h .lists)) (c .before .if1 .left)) (asking.base-sound _ _ (c .before .before .before .before .before .before .before .before .before .before .before .before .before .before .before .pre))) .0
 
 mul-value-2 : tie.Need-mul-value-2
-mul-value-2 c = let below = asking.value-sized _ _ _ _ (caching.sought-least _ _ _ (λ l h. c .before .before .lowest .ensures .answer _ _ _ _ _ (h .lists)) (c .before .if1 .left)) _ (c .before .before .before .before .before .before .before .before .before .before .before .before .before .before .pre) .1 in search needs
+mul-value-2 c = let below = asking.value-sized _ _ _ _ (caching.sought-least _ _ _ (λ l h. c .before .before .before .lowest .ensures .answer _ _ _ _ _ (h .lists)) (c .before .if1 .left)) _ (c .before .before .before .before .before .before .before .before .before .before .before .before .before .before .before .pre) .1 in search needs
 
 slice-read-value-2 : tie.Need-slice-read-value-2
-slice-read-value-2 c = asking.value-sized _ _ _ _ (caching.sought-least _ _ _ (λ l h. c .before .before .before .lowest .ensures .answer _ _ _ _ _ (h .lists)) (c .before .before .if1 .left)) _ (c .before .before .before .before .before .before .before .before .before .before .before .before .before .before .before .pre) .0
+slice-read-value-2 c = asking.value-sized _ _ _ _ (caching.sought-least _ _ _ (λ l h. c .before .before .before .before .lowest .ensures .answer _ _ _ _ _ (h .lists)) (c .before .before .if1 .left)) _ (c .before .before .before .before .before .before .before .before .before .before .before .before .before .before .before .before .pre) .0
 
 mul-values : tie.Need-mul-values
-mul-values c = let below = asking.value-sized _ _ _ _ (caching.sought-least _ _ _ (λ l h. c .before .before .before .lowest .ensures .answer _ _ _ _ _ (h .lists)) (c .before .before .if1 .left)) _ (c .before .before .before .before .before .before .before .before .before .before .before .before .before .before .before .pre) .1 in search needs
+mul-values c = let below = asking.value-sized _ _ _ _ (caching.sought-least _ _ _ (λ l h. c .before .before .before .before .lowest .ensures .answer _ _ _ _ _ (h .lists)) (c .before .before .if1 .left)) _ (c .before .before .before .before .before .before .before .before .before .before .before .before .before .before .before .before .pre) .1 in search needs
 
 slice-write-values : tie.Need-slice-write-values
-slice-write-values c = asking.value-sized _ _ _ _ (caching.sought-least _ _ _ (λ l h. c .before .before .before .lowest .ensures .answer _ _ _ _ _ (h .lists)) (c .before .before .if1 .left)) _ (c .before .before .before .before .before .before .before .before .before .before .before .before .before .before .before .pre) .0
+slice-write-values c = asking.value-sized _ _ _ _ (caching.sought-least _ _ _ (λ l h. c .before .before .before .before .lowest .ensures .answer _ _ _ _ _ (h .lists)) (c .before .before .if1 .left)) _ (c .before .before .before .before .before .before .before .before .before .before .before .before .before .before .before .before .pre) .0
 
 let-go-requires : tie.Need-let-go-requires
-let-go-requires c κs = asking.sought-bound _ _ _ _ (caching.sought-least _ _ _ (λ l h. c .before .before .before .before .before .before .before .before .before .before .before .before .lowest .ensures .answer _ _ _ _ _ (h .lists)) (c .before .before .before .before .before .before .before .before .before .before .before .if1 .left)) (asking.base-sound _ _ (c .before .before .before .before .before .before .before .before .before .before .before .before .before .before .before .before .before .before .before .before .before .before .before .before .pre))
+let-go-requires c κs = asking.sought-bound _ _ _ _ (caching.sought-least _ _ _ (λ l h. c .before .before .before .before .before .before .before .before .before .before .before .before .before .lowest .ensures .answer _ _ _ _ _ (h .lists)) (c .before .before .before .before .before .before .before .before .before .before .before .if1 .left)) (asking.base-sound _ _ (c .before .before .before .before .before .before .before .before .before .before .before .before .before .before .before .before .before .before .before .before .before .before .before .before .before .pre))
 
 same-length-2 : tie.Need-same-length-2
 same-length-2 c = c .before .before .before .before .before .before .before .before .before .before .before .before .before .before .before .before .before .before .let-go .kept .0
@@ -67,7 +67,7 @@ same-length-11 : tie.Need-same-length-11
 same-length-11 c = search needs
 
 returns-2 : tie.Need-returns-2
-returns-2 c = caching.evict-hit _ _ _ _ (caching.sought-least _ _ _ (λ l h. c .before .before .before .before .before .before .before .before .before .before .before .before .before .before .before .before .before .before .before .before .before .before .before .before .before .before .before .before .before .before .before .lowest .ensures .answer _ _ _ _ _ (h .lists)) (c .before .before .before .before .before .before .before .before .before .before .before .before .before .before .before .before .before .before .before .before .before .before .before .before .before .before .before .before .before .before .if1 .left)) _ _ (c .before .before .before .before .before .before .before .before .before .before .before .before .before .before .before .before .before .before .let-go .ensures)
+returns-2 c = caching.evict-hit _ _ _ _ (caching.sought-least _ _ _ (λ l h. c .before .before .before .before .before .before .before .before .before .before .before .before .before .before .before .before .before .before .before .before .before .before .before .before .before .before .before .before .before .before .before .before .lowest .ensures .answer _ _ _ _ _ (h .lists)) (c .before .before .before .before .before .before .before .before .before .before .before .before .before .before .before .before .before .before .before .before .before .before .before .before .before .before .before .before .before .before .if1 .left)) _ _ (c .before .before .before .before .before .before .before .before .before .before .before .before .before .before .before .before .before .before .let-go .ensures)
 
 pub evict-min-freq-spec : {M : Type 1} → statement M
 evict-min-freq-spec =

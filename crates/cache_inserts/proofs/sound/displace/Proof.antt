@@ -14,16 +14,16 @@ same-length : tie.Need-same-length
 same-length c = search needs
 
 returns : tie.Need-returns
-returns c = λ vs v. inserting.insert-full _ vs _ _ v (c .before .before .before .before .before .before .before .before .before .before .before .before .pre .unbound .missed) (c .before .before .before .before .before .before .before .before .before .before .before .before .pre .full) (caching.missed-least _ _ _ (λ l h. c .before .lowest .ensures .answer _ _ _ _ _ (h .lists)) (c .if1 .taken))
+returns c = λ vs v. inserting.insert-full _ vs _ _ v (c .before .before .before .before .before .before .before .before .before .before .before .before .before .pre .unbound .missed) (c .before .before .before .before .before .before .before .before .before .before .before .before .before .pre .full) (caching.missed-least _ _ _ (λ l h. c .before .before .lowest .ensures .answer _ _ _ _ _ (h .lists)) (c .if1 .taken))
 
-mul-t21 : tie.Need-mul-t21
-mul-t21 c = let limit = asked.slot-limit _ _ _ (asking.sought-bound _ _ _ _ (caching.sought-least _ _ _ (λ l h. c .before .lowest .ensures .answer _ _ _ _ _ (h .lists)) (c .if1 .left)) (c .before .before .before .before .before .before .before .before .before .before .before .before .pre .unbound .sound)) in search needs
+mul-t22 : tie.Need-mul-t22
+mul-t22 c = let limit = asked.slot-limit _ _ _ (asking.sought-bound _ _ _ _ (caching.sought-least _ _ _ (λ l h. c .before .before .lowest .ensures .answer _ _ _ _ _ (h .lists)) (c .if1 .left)) (c .before .before .before .before .before .before .before .before .before .before .before .before .before .pre .unbound .sound)) in search needs
 
-slice-read-t23 : tie.Need-slice-read-t23
-slice-read-t23 c = asked.slot-sized _ _ _ (asking.sought-bound _ _ _ _ (caching.sought-least _ _ _ (λ l h. c .before .before .lowest .ensures .answer _ _ _ _ _ (h .lists)) (c .before .if1 .left)) (c .before .before .before .before .before .before .before .before .before .before .before .before .before .pre .unbound .sound)) .0
+slice-read-t24 : tie.Need-slice-read-t24
+slice-read-t24 c = asked.slot-sized _ _ _ (asking.sought-bound _ _ _ _ (caching.sought-least _ _ _ (λ l h. c .before .before .before .lowest .ensures .answer _ _ _ _ _ (h .lists)) (c .before .if1 .left)) (c .before .before .before .before .before .before .before .before .before .before .before .before .before .before .pre .unbound .sound)) .0
 
 replace-requires : tie.Need-replace-requires
-replace-requires c κs = asking.out-replaceable _ _ _ _ (c .before .before .before .before .before .before .before .before .before .before .before .before .before .before .before .before .before .before .before .before .before .before .pre .unbound .sound) (c .before .before .before .before .before .before .before .before .before .before .before .before .before .before .before .before .before .before .before .before .before .before .pre .unbound .missed) (caching.sought-least _ _ _ (λ l h. c .before .before .before .before .before .before .before .before .before .before .before .lowest .ensures .answer _ _ _ _ _ (h .lists)) (c .before .before .before .before .before .before .before .before .before .before .if1 .left))
+replace-requires c κs = asking.out-replaceable _ _ _ _ (c .before .before .before .before .before .before .before .before .before .before .before .before .before .before .before .before .before .before .before .before .before .before .before .pre .unbound .sound) (c .before .before .before .before .before .before .before .before .before .before .before .before .before .before .before .before .before .before .before .before .before .before .before .pre .unbound .missed) (caching.sought-least _ _ _ (λ l h. c .before .before .before .before .before .before .before .before .before .before .before .before .lowest .ensures .answer _ _ _ _ _ (h .lists)) (c .before .before .before .before .before .before .before .before .before .before .if1 .left))
 
 same-length-2 : tie.Need-same-length-2
 same-length-2 c = c .before .before .before .before .before .before .before .before .before .before .before .before .before .before .before .before .before .before .replace .kept .0
@@ -53,7 +53,7 @@ same-length-10 : tie.Need-same-length-10
 same-length-10 c = search needs
 
 returns-2 : tie.Need-returns-2
-returns-2 c = λ vs v. inserting.insert-out _ vs _ _ v (c .before .before .before .before .before .before .before .before .before .before .before .before .before .before .before .before .before .before .before .before .before .before .before .before .before .before .before .before .before .before .before .before .before .before .before .before .before .before .before .before .before .pre .unbound .missed) (c .before .before .before .before .before .before .before .before .before .before .before .before .before .before .before .before .before .before .before .before .before .before .before .before .before .before .before .before .before .before .before .before .before .before .before .before .before .before .before .before .before .pre .full) _ (caching.sought-least _ _ _ (λ l h. c .before .before .before .before .before .before .before .before .before .before .before .before .before .before .before .before .before .before .before .before .before .before .before .before .before .before .before .before .before .before .lowest .ensures .answer _ _ _ _ _ (h .lists)) (c .before .before .before .before .before .before .before .before .before .before .before .before .before .before .before .before .before .before .before .before .before .before .before .before .before .before .before .before .before .if1 .left)) _ _ (c .before .before .before .before .before .before .before .before .before .before .before .before .before .before .before .before .before .before .replace .ensures)
+returns-2 c = λ vs v. inserting.insert-out _ vs _ _ v (c .before .before .before .before .before .before .before .before .before .before .before .before .before .before .before .before .before .before .before .before .before .before .before .before .before .before .before .before .before .before .before .before .before .before .before .before .before .before .before .before .before .before .pre .unbound .missed) (c .before .before .before .before .before .before .before .before .before .before .before .before .before .before .before .before .before .before .before .before .before .before .before .before .before .before .before .before .before .before .before .before .before .before .before .before .before .before .before .before .before .before .pre .full) _ (caching.sought-least _ _ _ (λ l h. c .before .before .before .before .before .before .before .before .before .before .before .before .before .before .before .before .before .before .before .before .before .before .before .before .before .before .before .before .before .before .before .lowest .ensures .answer _ _ _ _ _ (h .lists)) (c .before .before .before .before .before .before .before .before .before .before .before .before .before .before .before .before .before .before .before .before .before .before .before .before .before .before .before .before .before .if1 .left)) _ _ (c .before .before .before .before .before .before .before .before .before .before .before .before .before .before .before .before .before .before .replace .ensures)
 
 pub displace-spec : {M : Type 1} → statement M
 displace-spec =
@@ -62,8 +62,8 @@ displace-spec =
     lowest-requires
     same-length
     returns
-    mul-t21
-    slice-read-t23
+    mul-t22
+    slice-read-t24
     replace-requires
     same-length-2
     same-length-3

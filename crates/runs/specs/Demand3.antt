@@ -7,12 +7,12 @@ use Prim.Native.Nat.{ℕ, _≤_}
 use lib.Dec.{eqb}
 use lib.ListN.{length}
 use Rattle.lists.specs.Lists.{In}
-use Rattle.ledger.specs.Ledger.{Item, items}
+use Rattle.ledger.specs.Ledger.{Item, items, size}
 use Rattle.ledger.specs.Buckets.{Reply, done, refused}
 use Rattle.ledger.specs.Cache.{Cache, newCache, Insertion, fresh, freshOut, old, full, Lookup, hit, miss, Least, least, nothing}
 use Rattle.ledger.specs.History.{CacheCall, Insert, Get, Peek, Remove, Reset, PeekLfu, Evict, Clear, Len, Event, inserted, got, peeked, removed, reset, peekedLfu, evicted, cleared, measured, log, afterAll, Evicts}
 use Rattle.ledger.specs.CacheCalls.{eventReply}
-use Rattle.ledger.specs.Demand3.{CALLS, LeastGoes, OnlyInserts, Spares}
+use Rattle.ledger.specs.Demand3.{EmptyCache, CALLS, LeastGoes, OnlyInserts, Spares}
 use Rattle.promise.specs.Promise.{Makes}
 use Rattle.promise.specs.Making.{Made}
 use Rattle.buckets_tables.specs.declared.State.{State}
@@ -68,29 +68,39 @@ Runs t s [] (r ∷ rs) t' s' = ⊥
 Runs t s (a ∷ as′) [] t' s' = ⊥
 Runs t s (a ∷ as′) (r ∷ rs) t' s' = (u : CacheTables) × (z : State) × Makes cache a t s r u z × Runs u z as′ rs t' s'
 
--- from tables that `new` has made: the calls, the replies, and the tables and the state after them
-pub record Served (capacity : ℕ) (calls : List CacheCall) (replies : List Reply) (t : CacheTables) (s : State) : Type 0 where
-  pub handed : CacheTables
-  pub made : CacheTables
+-- from tables that hold a cache: the calls, the replies, and the tables and the state after them
+pub record Served (start : Cache) (calls : List CacheCall) (replies : List Reply) (t : CacheTables) (s : State) : Type 0 where
+  pub lent : CacheTables
   pub state : State
-  pub new : Made cache lent.nothing (newCache capacity) capacity handed (done []) made state
-  pub runs : Runs made state calls replies t s
+  pub held : CacheHolds lent state start
+  pub runs : Runs lent state calls replies t s
 
 -- The replies are those of the ledger's run, the tables hold its cache, and no two bound guests hold one slot.
-pub record AsLedger (capacity : ℕ) (calls : List CacheCall) (replies : List Reply) (t : CacheTables) (s : State) : Type 0 where
-  pub answers : replies ≡ map eventReply (log (newCache capacity) calls)
-  pub told : history calls replies ≡ log (newCache capacity) calls
-  pub holds : CacheHolds t s (afterAll (newCache capacity) calls)
+pub record AsLedger (start : Cache) (calls : List CacheCall) (replies : List Reply) (t : CacheTables) (s : State) : Type 0 where
+  pub answers : replies ≡ map eventReply (log start calls)
+  pub told : history calls replies ≡ log start calls
+  pub holds : CacheHolds t s (afterAll start calls)
   pub apart : (c : Cache) → CacheHolds t s c → (x y : Item) → In x (items (c .table .levels)) → In y (items (c .table .levels)) → x .slot ≡ y .slot → x .key ≡ y .key
 
 abbrev pub RunsAsLedger : Type 0
-RunsAsLedger = (capacity : ℕ) (calls : List CacheCall) (replies : List Reply) (t : CacheTables) (s : State) → Served capacity calls replies t s → AsLedger capacity calls replies t s
+RunsAsLedger = (start : Cache) (calls : List CacheCall) (replies : List Reply) (t : CacheTables) (s : State) → Served start calls replies t s → AsLedger start calls replies t s
+
+-- Tables that `new` has made hold an empty cache; and so do any that hold a cache in which no key is bound, as after a clear, or when the
+-- last guest has left.
+abbrev pub NewIsEmpty : Type 0
+NewIsEmpty =
+    (capacity : ℕ) (handed made : CacheTables) (state : State) → Made cache lent.nothing (newCache capacity) capacity handed (done []) made state →
+    CacheHolds made state (newCache capacity) × EmptyCache (newCache capacity)
+
+abbrev pub NobodyIsEmpty : Type 0
+NobodyIsEmpty = (t : CacheTables) (s : State) (c : Cache) → CacheHolds t s c → size (c .table) ≡ 0 → EmptyCache c
 
 -- Whoever a call evicts, by its reply, has the fewest hits since it was last bound, and among those the oldest last hit or binding: by
 -- the calls made before it and their replies.
 abbrev pub FirstAtCode : Type 0
 FirstAtCode =
-    (capacity : ℕ) → 1 ≤ capacity → (calls : List CacheCall) (replies : List Reply) (t : CacheTables) (s : State) → Served capacity calls replies t s → length calls ≤ CALLS →
+    (start : Cache) → EmptyCache start → 1 ≤ start .table .capacity → (calls : List CacheCall) (replies : List Reply) (t : CacheTables) (s : State) →
+    Served start calls replies t s → length calls ≤ CALLS →
     (before : List Event) (now : Event) (rest : List Event) → history calls replies ≡ before ++ (now ∷ rest) →
     (v : ℕ) → Evicts now v → LeastGoes before v
 
@@ -98,6 +108,7 @@ FirstAtCode =
 -- or a bound guest without hits.
 abbrev pub SecondAtCode : Type 0
 SecondAtCode =
-    (capacity : ℕ) → 1 ≤ capacity → (calls : List CacheCall) (replies : List Reply) (t : CacheTables) (s : State) → Served capacity calls replies t s → length calls ≤ CALLS →
+    (start : Cache) → EmptyCache start → 1 ≤ start .table .capacity → (calls : List CacheCall) (replies : List Reply) (t : CacheTables) (s : State) →
+    Served start calls replies t s → length calls ≤ CALLS →
     (before inserts rest : List Event) → history calls replies ≡ before ++ (inserts ++ rest) → OnlyInserts inserts →
-    Spares capacity before inserts
+    Spares (start .table .capacity) before inserts

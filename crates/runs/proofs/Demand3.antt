@@ -5,10 +5,12 @@ use mathlib.Core.List.{List, [], _∷_, map}
 use Prim.Native.Nat.{ℕ}
 use native.Mathlib.Omega.{arith}
 use lib.ListN.{length}
+use Rattle.ledger.specs.Ledger.{Entry, Level, tag, items, NonEmpty, Rising}
 use Rattle.ledger.specs.Buckets.{Reply, done}
 use Rattle.ledger.specs.Cache.{Cache, newCache, Insertion, fresh, freshOut, old, full, Lookup, hit, miss, Least, least, nothing, insertReply, lookupReply, leastReply, cacheInsert, cacheGet, cachePeek, cacheRemove, cacheReset, cachePeekLfu, cacheEvict}
 use Rattle.ledger.specs.History.{CacheCall, Insert, Get, Peek, Remove, Reset, PeekLfu, Evict, Clear, Len, inserted, got, peeked, removed, reset, peekedLfu, evicted, does, log, afterAll}
 use Rattle.ledger.specs.CacheCalls.{eventReply, cacheCalls}
+use Rattle.ledger.proofs.Runs.{new-empty}
 use Rattle.ledger.proofs.FirstSentence.{first-sentence}
 use Rattle.ledger.proofs.SecondSentence.{second-sentence}
 use Rattle.ledger.proofs.Refusals.{done-refused}
@@ -21,7 +23,7 @@ use Rattle.buckets_tables.specs.Lent as lent
 use Rattle.cache_tables.specs.Tables.{CacheTables, CacheHolds}
 use Rattle.cache_tables.specs.Lent.{cache}
 use Rattle.cache_tables.proofs.Cached.{cache-holds-one, guests-apart}
-use Rattle.lfu.specs.Demand3.{insertionOf, lookupOf, leastOf, eventOf, history, Runs, RunsAsLedger, FirstAtCode, SecondAtCode}
+use Rattle.runs.specs.Demand3.{insertionOf, lookupOf, leastOf, eventOf, history, Runs, RunsAsLedger, NewIsEmpty, NobodyIsEmpty, FirstAtCode, SecondAtCode}
 
 -- A reply says which event it was
 
@@ -77,29 +79,42 @@ run (a ∷ as′) (r ∷ rs) c t s t' s' h w =
     let rest = run as′ rs (does a c .1) (w .0) (w .1) t' s' (d .holds) (w .3) in
     (λ i. d .answer i ∷ rest .0 i, rest .1)
 
--- Tables that `new` has made hold a new cache
+pub runs-as-ledger : RunsAsLedger
+runs-as-ledger start calls replies t s w =
+    let all = run calls replies start (w .lent) (w .state) t s (w .held) (w .runs) in
+    record {
+      answers = all .0;
+      told = ap (history calls) (all .0) ∙ log-back calls start;
+      holds = all .1;
+      apart = λ c h. guests-apart t s c h;
+    }
+
+-- Where demand 3 starts: tables that `new` has made, and any in which no key is bound
 
 new-holds : (n : ℕ) (t u : CacheTables) (s : State) (v : Sizing cache) → MadeBy cache lent.nothing (newCache n) t (done []) u s v → CacheHolds u s (newCache n)
 new-holds n t u s tooLarge m = done-refused [] _ (m .answer)
 new-holds n t u s tooShort m = done-refused [] _ (m .answer)
 new-holds n t u s fitting m = m .1
 
-pub runs-as-ledger : RunsAsLedger
-runs-as-ledger n calls replies t s w =
-    let start = new-holds n (w .handed) (w .made) (w .state) (w .new .0) (w .new .2) in
-    let all = run calls replies (newCache n) (w .made) (w .state) t s start (w .runs) in
-    record {
-      answers = all .0;
-      told = ap (history calls) (all .0) ∙ log-back calls (newCache n);
-      holds = all .1;
-      apart = λ c h. guests-apart t s c h;
-    }
+pub new-is-empty : NewIsEmpty
+new-is-empty n t u s m = (new-holds n t u s (m .0) (m .2), new-empty n)
+
+pub nobody-is-empty : NobodyIsEmpty
+nobody-is-empty t s c h none-bound = record { formed = h .formed; nobody = no-levels (c .table .levels) (h .formed .table .rising) none-bound }
+  where
+    no-levels : (ls : List Level) → Rising 0 ls → length (items ls) ≡ 0 → ls ≡ []
+    no-levels [] r e = refl
+    no-levels (l ∷ ls) r e = go (l .entries) (r .2) e
+      where
+        go : (es : List Entry) → NonEmpty es → length (tag (l .frequency) es (items ls)) ≡ 0 → l ∷ ls ≡ []
+        go [] n q = absurd n
+        go (d ∷ ds) n q = absurd (omega arith)
 
 -- Demand 3
 pub first-at-code : FirstAtCode
-first-at-code n some-room calls replies t s w few before now rest parted v gone =
-    first-sentence n some-room calls few before now rest (sym (runs-as-ledger n calls replies t s w .told) ∙ parted) v gone
+first-at-code start nobody some-room calls replies t s w few before now rest parted v gone =
+    first-sentence start nobody some-room calls few before now rest (sym (runs-as-ledger start calls replies t s w .told) ∙ parted) v gone
 
 pub second-at-code : SecondAtCode
-second-at-code n some-room calls replies t s w few before inserts rest parted only =
-    second-sentence n some-room calls few before inserts rest (sym (runs-as-ledger n calls replies t s w .told) ∙ parted) only
+second-at-code start nobody some-room calls replies t s w few before inserts rest parted only =
+    second-sentence start nobody some-room calls few before inserts rest (sym (runs-as-ledger start calls replies t s w .told) ∙ parted) only
