@@ -1,6 +1,7 @@
 -- `onward` meets its contract: a walk of its MIR, by hand. A walker is made of the two parameters, in a local, and passed to `step`; what that
 -- returns is held in a local and passed to `stands`. All that is known of the two is that each meets its contract.
--- The parameters are Copy: what they own is had twice, for the walker and for the exit.
+-- The parameters are Copy: what they own is had twice, for the walker and for the exit. What is asked of the links the walk does not use: it
+-- is for the caller to have links that some ledger has, since the promise speaks of the slots that are bound there.
 use mathlib.Core.Path.{_≡_, refl, sym, subst}
 use Prim.Native.Nat.{ℕ}
 use mathlib.Core.List.{List, [], _∷_}
