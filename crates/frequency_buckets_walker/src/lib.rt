@@ -73,7 +73,8 @@ pub fn start<'a>(
     }
 }
 
-// Goes to the slot after the one it stands at.
+// Goes to the slot after the one it stands at. The tables need no check: they are as its start found them, and after a refused start it
+// stands out of range.
 pub fn step<'a>(w: Walker<'a>) -> Walker<'a>
     ensures { λ r. ⌜ (r .links ≡ w .entry .links) × Steps (now (w .entry .links)) (w .entry .at) (r .at) ⌝ }
 {
