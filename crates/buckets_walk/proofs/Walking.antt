@@ -11,9 +11,9 @@ use lib.Dec.{eqb}
 use Rattle.numbers.specs.Marks.{NONE}
 use Rattle.numbers.specs.declared.Answer.the-variants.{Absent}
 use Rattle.numbers.specs.declared.Slot.{Slot}
-use Rattle.lists.specs.Lists.{All, In}
-use Rattle.lists.proofs.Tests.{if-lt, if-same, if-other, if-less, if-not-less}
-use Rattle.lists.proofs.Members.{all-in, all-map, all-right, without-times}
+use Rattle.lists.specs.Lists.{All, In, one}
+use Rattle.lists.proofs.Tests.{if-lt, if-same, if-other, if-less, if-not-less, one-same}
+use Rattle.lists.proofs.Members.{all-in, all-map, all-right, in-sum, without-times}
 use Rattle.ledger.specs.Ledger.{Ledger, Item, item, items, tag, slotted}
 use Rattle.ledger.specs.Buckets.{done, refused}
 use Rattle.ledger.specs.Calls.{asks, WalkStart, WalkStep}
@@ -26,7 +26,7 @@ use Rattle.levels.proofs.Lines.{nowhere-members}
 use Rattle.levels.proofs.One.{held-one, held-below, held-rising, held-next, free-nowhere, taken-bound}
 use Rattle.buckets_tables.specs.declared.State.{State}
 use Rattle.buckets_tables.specs.Tables.{Tables, tables, leveled}
-use Rattle.buckets_tables.specs.Holds.{entryAt, entriesAt, Carries, Holds}
+use Rattle.buckets_tables.specs.Holds.{entryAt, entriesAt, BoundSlot, Carries, Holds}
 use Rattle.buckets_tables.proofs.Entries.{slotted-members}
 use Rattle.buckets_tables.proofs.Found.{Stands, stands}
 use Rattle.buckets_walk.specs.declared.After.{After}
@@ -117,6 +117,10 @@ module _ (n : List ℕ) (x : ℕ) where
     pub next-at : (y : ℕ) → y ≡ cells n x → y ≢ NONE → Leads n x (link.At (record { 0 = y }))
     next-at y e q = subst (λ (z : ℕ). Leads n x (link.At (record { 0 = z }))) (sym e) (led-by (link.At (record { 0 = cells n x })) (sym (if-other (cells n x) NONE link.NoMore (link.At (record { 0 = cells n x })) (λ w. q (e ∙ w)))))
 
+-- the links leave no choice where a step leads
+pub leads-agree : (n : List ℕ) (x : ℕ) (r q : After) → Leads n x r → Leads n x q → r ≡ q
+leads-agree n x r q a b = a .cell ∙ sym (b .cell)
+
 -- What is told
 
 -- of a walk past the last slot, and of one that stands nowhere
@@ -147,6 +151,13 @@ module _ (t : Tables) (s : State) (l : Ledger) (h : Carries t s l) where
   seen st i y q = let w = at-here y st q in (w .0, w .1, subst (Stands t s l h (w .0)) (w .2) (stands t s l h (w .0) (i (w .0) (w .1))))
 
 -- `walk_step`
+
+-- links lead only to slots that are bound, in whatever ledger they are the links of
+pub leads-bound : (n : List ℕ) (x : ℕ) (y : Slot) → Leads n x (link.At y) → (k f e p a i b sp : List ℕ) (s : State) (l : Ledger) → Holds (tables k f e p n a i b sp) s l → BoundSlot l (y .0)
+leads-bound n x y q k f e p a i b sp s l h =
+    let w = seen (tables k f e p n a i b sp) s l (h .carries) (step x l) (step-in x l) y (q .steps k f e p a i b sp s l h) in
+    let c = in-sum (λ (z : Item). one (z .slot) (y .0)) (items (l .levels)) (w .0) (w .2 .inside) in
+    omega (arith, one-same (w .0 .slot) (y .0) (w .2 .slot))
 
 module _ (k f e n : List ℕ) (x : ℕ) where
   pub step-past : Leads n x link.NoMore → OfStep k f e n (asks (WalkStep x)) (done [])

@@ -2,23 +2,23 @@
 -- ` slot:key:epoch`.
 use mathlib.Core.Path.{_≡_}
 use mathlib.Core.List.{List, [], _∷_, _++_}
-use Prim.Native.Nat.{ℕ, _+_, _*_, _≤_}
-use lib.ListN.{length}
+use Prim.Native.Nat.{ℕ, _+_, _*_, _≤_, _<_}
+use lib.ListN.{length, getD}
 use Rattle.numbers.specs.Marks.{LIMIT}
 use Rattle.numbers.specs.Answer.{numberOf}
 use Rattle.numbers.specs.declared.Answer.the-variants.{Done, Corrupt, Short, Capacity}
+use Rattle.numbers.specs.declared.Slot.{Slot}
+use Rattle.lists.specs.Lists.{All}
 use Rattle.ledger.specs.Ledger.{Item}
-use Rattle.ledger.specs.Buckets.{done, refused}
-use Rattle.ledger.specs.Calls.{asks, WalkStep}
-use Rattle.ledger.specs.Walk as ledger
-use Rattle.ledger.specs.Walk.{listOf, here}
-use Rattle.promise.specs.Promise.{Reading, over, short, corrupt, ledger, Reads}
+use Rattle.ledger.specs.Buckets.{refused}
+use Rattle.ledger.specs.Walk.{listOf}
+use Rattle.promise.specs.Promise.{Sound, Reading, over, short, corrupt, ledger, Reads}
 use Rattle.buckets_tables.specs.declared.State.{State}
-use Rattle.buckets_tables.specs.Tables.{Tables}
+use Rattle.buckets_tables.specs.Tables.{Tables, tables}
 use Rattle.buckets_tables.specs.Lent.{buckets}
-use Rattle.answers.specs.declared.Step.{Step}
-use Rattle.answers.specs.Replies.{stepReply}
-use Rattle.buckets_walk.specs.Walks.{OfStep}
+use Rattle.answers.specs.declared.Reached.the-variants.{At}
+use Rattle.frequency_buckets_walker.specs.declared.Stand.{Stand}
+use Rattle.frequency_buckets_walker.specs.Walks.{Shows}
 use Rattle.trace.specs.Lines.{DIGITS, FEED, decimal, spaced}
 use Rattle.trace.specs.Written.{Writes, Spells}
 use Rattle.drive_lines.specs.Lines.{replyText}
@@ -55,16 +55,22 @@ WALK = DIGITS + (LIMIT * ITEM + 1)
 
 -- Promises
 
--- over these tables a walk that stands at st shows exactly these items, whatever its steps answer
-abbrev pub StepsShow : (k f e n : List ℕ) → Step → List Item → Type 0
-StepsShow k f e n st [] = stepReply st ≡ done []
-StepsShow k f e n st (x ∷ xs) =
-    (stepReply st ≡ ledger.stepReply (here x)) × ((st' : Step) → OfStep k f e n (asks (WalkStep (x .slot))) (stepReply st') → StepsShow k f e n st' xs)
+-- keys, epochs and links are lent: with some other tables and some state they are sound
+abbrev pub Listable : (k e n : List ℕ) → Type 0
+Listable k e n = (f : List ℕ) × (p : List ℕ) × (a : List ℕ) × (i : List ℕ) × (b : List ℕ) × (sp : List ℕ) × (s : State) × Sound buckets (tables k f e p n a i b sp) s
 
--- what such a walk shows is written, where it is no longer than the tables
-pub record Lists (k f e n : List ℕ) (st : Step) (out : List ℕ) (at : ℕ) (out' : List ℕ) (r : ℕ) : Type 0 where
+-- a slot that the reader has answered has a place in the table of keys
+abbrev pub Placed : List ℕ → Stand → Type 0
+Placed k r = (x : Slot) → r .answer ≡ At x → x .0 < length k
+
+-- the tables say an item's key and epoch at its slot
+abbrev pub Says : (k e : List ℕ) → Item → Type 0
+Says k e x = (getD k (x .slot) 0 ≡ x .key) × (getD e (x .slot) 0 ≡ x .epoch)
+
+-- what the reader shows from where it stands is written, where it is no longer than the tables
+pub record Lists (k e n : List ℕ) (st : Stand) (out : List ℕ) (at : ℕ) (out' : List ℕ) (r : ℕ) : Type 0 where
   pub room : r ≤ at + length k * ITEM
-  pub writes : (xs : List Item) → StepsShow k f e n st xs → length xs ≤ length k → Writes out at (itemsText xs) out' r
+  pub writes : (xs : List Item) → Shows n st xs → All (Says k e) xs → length xs ≤ length k → Writes out at (itemsText xs) out' r
 
 -- the line of what is read from the tables
 abbrev pub WalkPrints : (frequency : ℕ) → Tables → State → (out : List ℕ) (at : ℕ) (out' : List ℕ) (r : ℕ) → Type 0

@@ -1,11 +1,14 @@
--- The walker's start and step: what the plain walk answers, as far as the slot goes, and the place that goes with the answer.
-use mathlib.Core.Path.{_≡_, refl, sym, ap, _∙_}
+-- The walker's start and step: what the plain walk answers, as far as the slot goes, and the place that goes with the answer. A step answers
+-- only bound slots since links lead only to such.
+use mathlib.Core.Path.{_≡_, refl, sym, ap, _∙_, subst}
 use mathlib.Core.Logic.{_↔_}
 use mathlib.Core.Bool.{Bool, true, false}
 use mathlib.Core.List.{List, [], _∷_}
 use Prim.Native.Nat.{ℕ}
+use native.Mathlib.Omega.{arith}
 use Rattle.numbers.specs.declared.Answer.{Answer}
 use Rattle.numbers.specs.declared.Answer.the-variants.{Done}
+use Rattle.numbers.specs.declared.Slot.{Slot}
 use Rattle.ledger.specs.Ledger.{Ledger}
 use Rattle.ledger.specs.Buckets.{Reply, done, refused}
 use Rattle.ledger.specs.Calls.{asks, WalkStart}
@@ -20,20 +23,18 @@ use Rattle.answers.specs.declared.Step.the-variants as step
 use Rattle.answers.specs.declared.Reached.{Reached}
 use Rattle.answers.specs.declared.Reached.the-variants.{At, NoMore, Refused}
 use Rattle.answers.specs.Replies.{stepReply, reachedReply}
-use Rattle.buckets_walk.specs.Walks.{slotOf, OfStart}
+use Rattle.buckets_walk.specs.declared.After.{After}
+use Rattle.buckets_walk.specs.declared.After.the-variants as link
+use Rattle.buckets_walk.specs.Walks.{slotOf, Leads, OfStart}
+use Rattle.buckets_walk.proofs.Walking.{leads-bound}
 use Rattle.frequency_buckets_walker.specs.declared.Stand.{Stand}
 use Rattle.frequency_buckets_walker.specs.Stands.{ofStep, ofLink, standOf}
-use Rattle.frequency_buckets_walker.specs.Walks.{shows, Stands, Starts}
+use Rattle.frequency_buckets_walker.specs.Walks.{shows, Stands, Starts, Steps, Onward}
 
--- a walker stands with the answer that it stands by
-answer-of : (a : Reached) → standOf a .answer ≡ a
-answer-of (At x) = refl
-answer-of NoMore = refl
-answer-of (Refused a) = refl
-
+-- a walker stands by its answer
 pub stands-by : (t : Tables) (s : State) (walk : Ledger → ledger.Step) (a : Reached) (r : Stand) → r ≡ standOf a →
     Promised lent.buckets (λ l. shows (walk l) l) t s (reachedReply a) t s → Stands t s walk r
-stands-by t s walk a r e p = rw e (record { promised = rw (answer-of a) p; stands = ap standOf (sym (answer-of a)) })
+stands-by t s walk a r e p = rw e (record { promised = p; stands = refl })
 
 -- a reply cut off after its first number
 abbrev cut : Reply → Reply
@@ -68,3 +69,16 @@ start-done k f e p n a i b sp s g w ok st q r c told d o eq er =
       holds = h;
       leaves = λ z y. (refl, refl);
     }))
+
+-- `onward`
+
+led-at : (z : After) (x : Slot) → ofLink z ≡ At x → z ≡ link.At x
+led-at (link.At y) x e = let c : y ≡ x = cc in ap link.At c
+led-at link.NoMore x e = let c : _≡_ {A = ℕ} 0 1 = cc in absurd (omega arith)
+led-at link.Absent x e = let c : _≡_ {A = ℕ} 0 1 = cc in absurd (omega arith)
+
+pub onward-so : (n : List ℕ) (at r : Stand) → Steps n at r → Onward n at r
+onward-so n at r w = record {
+  steps = w;
+  bound = λ x e. leads-bound n (at .slot .0) x (subst (Leads n (at .slot .0)) (led-at (w .after) x (sym (ap (λ (q : Stand). q .answer) (w .stands)) ∙ e)) (w .leads));
+}

@@ -1,3 +1,4 @@
+pub mod Agreeing
 pub mod Answers
 pub mod Passed
 pub mod Places

@@ -11,10 +11,10 @@ use Rattle.lists.specs.Lists.{All}
 use Rattle.lists.proofs.Tests.{if-eq, if-same, if-other, by-eq, neither}
 use Rattle.lists.proofs.Members.{all-mid}
 use Rattle.ledger.specs.Ledger.{Ledger, Item, WellFormed}
-use Rattle.ledger.specs.Buckets.{Reply, done, refused}
+use Rattle.ledger.specs.Buckets.{refused}
 use Rattle.ledger.specs.Walk.{Step, here, noMore, absent, listOf, head, start, step}
 use Rattle.ledger.proofs.Walked.{listOf-frequency, step-at, step-outside}
-use Rattle.promise.specs.Promise.{over, short, corrupt, ledger, By, Promised}
+use Rattle.promise.specs.Promise.{over, short, corrupt, ledger, Reads, By, Promised}
 use Rattle.promise.proofs.Agree.{reads-one}
 use Rattle.buckets_tables.specs.declared.State.{State}
 use Rattle.buckets_tables.specs.Tables.{Tables, tables, Sized}
@@ -27,7 +27,8 @@ use Rattle.answers.specs.Replies.{reachedReply}
 use Rattle.buckets_walk.specs.Walks.{slotOf}
 use Rattle.frequency_buckets_walker.specs.declared.Stand.{Stand}
 use Rattle.frequency_buckets_walker.specs.Stands.{NOWHERE, isRefused, ofLink, standOf}
-use Rattle.frequency_buckets_walker.specs.Walks.{shows, Stands, Starts, Steps, nthOf, Nth}
+use Rattle.frequency_buckets_walker.specs.Walks.{shows, Stands, Starts, Steps, Linked, nthOf, Nth}
+use Rattle.frequency_buckets_walker.proofs.Agreeing.{reached-injective}
 use Rattle.frequency_buckets_walker.proofs.Answers.{stands-by}
 
 -- what a walker answers that stands where the ledger's walk does, and the slot it stands at
@@ -81,23 +82,6 @@ module _ (l : Ledger) (w : WellFormed l) (limit : l .capacity ≤ NONE) (g : ℕ
 
 -- ---- what a promise says of the walker
 
-abbrev number : Reply → ℕ
-number (done []) = NOWHERE
-number (done (n ∷ ns)) = n
-number (refused a) = NOWHERE
-
--- two answers with one reply are the same
-reply-one : (a b : Reached) → reachedReply a ≡ reachedReply b → a ≡ b
-reply-one (At x) (At y) e = λ i. At (record { 0 = ap number e i })
-reply-one (At x) NoMore e = let c : _≡_ {A = ℕ} 0 1 = cc in absurd (omega arith)
-reply-one (At x) (Refused a) e = let c : _≡_ {A = ℕ} 0 1 = cc in absurd (omega arith)
-reply-one NoMore (At y) e = let c : _≡_ {A = ℕ} 0 1 = cc in absurd (omega arith)
-reply-one NoMore NoMore e = refl
-reply-one NoMore (Refused a) e = let c : _≡_ {A = ℕ} 0 1 = cc in absurd (omega arith)
-reply-one (Refused a) (At y) e = let c : _≡_ {A = ℕ} 0 1 = cc in absurd (omega arith)
-reply-one (Refused a) NoMore e = let c : _≡_ {A = ℕ} 0 1 = cc in absurd (omega arith)
-reply-one (Refused a) (Refused b) e = let c : a ≡ b = cc in ap Refused c
-
 refused-so : (a : Reached) (w : Answer) → reachedReply a ≡ refused w → isRefused a ≡ true
 refused-so (At x) w e = let c : _≡_ {A = ℕ} 0 1 = cc in absurd (omega arith)
 refused-so NoMore w e = let c : _≡_ {A = ℕ} 0 1 = cc in absurd (omega arith)
@@ -118,13 +102,23 @@ module _ (t : Tables) (s : State) (walk walk' : Ledger → Step) (r : Stand) whe
       go (short, v, y) = (short, v, y)
       go (corrupt, v, y) = (corrupt, v, y)
       go (ledger l, v, y) =
-          let q = same l (v .2) (reply-one (r .answer) (told (walk l)) (y .answer)) in
+          let q = same l (v .2) (reached-injective (r .answer) (told (walk l)) (y .answer)) in
           (ledger l, v, record { answer = y .answer ∙ ap (λ (st : Step). reachedReply (told st)) q; holds = y .holds; leaves = y .leaves })
+
+-- a walker that has answered no refusal stands on tables that hold a ledger
+pub stands-held : (t : Tables) (s : State) (walk : Ledger → Step) (r : Stand) → isRefused (r .answer) ≡ false → Stands t s walk r → (l : Ledger) × Reads lent.buckets t s (ledger l)
+stands-held t s walk r d h = go (h .promised)
+  where
+    go : Promised lent.buckets (λ l. shows (walk l) l) t s (reachedReply (r .answer)) t s → (l : Ledger) × Reads lent.buckets t s (ledger l)
+    go (over, v, y) = absurd (neither (isRefused (r .answer)) (refused-so (r .answer) _ (y .answer)) d)
+    go (short, v, y) = absurd (neither (isRefused (r .answer)) (refused-so (r .answer) _ (y .answer)) d)
+    go (corrupt, v, y) = absurd (neither (isRefused (r .answer)) (refused-so (r .answer) _ (y .answer)) d)
+    go (ledger l, v, y) = (l, v)
 
 -- on tables that hold a ledger the walker stands as that ledger's walk does
 pub stands-told : (t : Tables) (s : State) (walk : Ledger → Step) (r : Stand) (l : Ledger) → Holds t s l → Stands t s walk r → r ≡ standOf (told (walk l))
 stands-told t s walk r l h w =
-    w .stands ∙ ap standOf (reply-one (r .answer) (told (walk l)) (subst (By lent.buckets (λ m. shows (walk m) m) t s (reachedReply (r .answer)) t s) reading (w .promised .2) .answer))
+    w .stands ∙ ap standOf (reached-injective (r .answer) (told (walk l)) (subst (By lent.buckets (λ m. shows (walk m) m) t s (reachedReply (r .answer)) t s) reading (w .promised .2) .answer))
   where
     reading : w .promised .0 ≡ ledger l
     reading = reads-one lent.buckets holds-one t s (w .promised .0) (ledger l) (w .promised .1) (let c = h .carries .capacity in let m = h .carries .limit in omega arith, subst (Sized t) (sym (h .carries .capacity)) (h .carries .sized), h)
@@ -147,25 +141,22 @@ nth-refused t s g m n r b e h =
 pub nth-more : (k f e p n a i b sp : List ℕ) (s : State) (g m : ℕ) (at r : Stand) → isRefused (at .answer) ≡ false → Nth (tables k f e p n a i b sp) s g m at → Steps n at r →
     Nth (tables k f e p n a i b sp) s g (m + 1) r
 nth-more k f e p n a i b sp s g m at r d h w =
-    stands-by (tables k f e p n a i b sp) s (λ l. nthOf (listOf g (l .levels)) (m + 1)) (ofLink (w .after)) r (w .stands) (go (h .promised))
-  where
-    go : Promised lent.buckets (λ l. shows (nthOf (listOf g (l .levels)) m) l) (tables k f e p n a i b sp) s (reachedReply (at .answer)) (tables k f e p n a i b sp) s →
-        Promised lent.buckets (λ l. shows (nthOf (listOf g (l .levels)) (m + 1)) l) (tables k f e p n a i b sp) s (reachedReply (ofLink (w .after))) (tables k f e p n a i b sp) s
-    go (over, v, y) = absurd (neither (isRefused (at .answer)) (refused-so (at .answer) _ (y .answer)) d)
-    go (short, v, y) = absurd (neither (isRefused (at .answer)) (refused-so (at .answer) _ (y .answer)) d)
-    go (corrupt, v, y) = absurd (neither (isRefused (at .answer)) (refused-so (at .answer) _ (y .answer)) d)
-    go (ledger l, v, y) =
-        let xs : List Item = listOf g (l .levels) in
-        let here-so : at .slot .0 ≡ slotAt (nthOf xs m) = ap (λ (z : Stand). z .slot .0) (h .stands) ∙ ap (λ (z : Reached). standOf z .slot .0) (reply-one (at .answer) (told (nthOf xs m)) (y .answer)) in
-        let on : step (at .slot .0) l ≡ nthOf xs (m + 1) = ap (λ (x : ℕ). step x l) here-so ∙ step-nth l (v .2 .carries .formed) (v .2 .carries .limit) g [] xs refl m in (
-          ledger l,
-          v,
-          record {
-            answer = ap (λ z. reachedReply (ofLink z)) (w .leads .steps k f e p a i b sp s l (v .2)) ∙ ap (λ (st : Step). reachedReply (told st)) on;
-            holds = v .2;
-            leaves = λ z q. (refl, refl);
-          },
-        )
+    let t = tables k f e p n a i b sp in
+    let found = stands-held t s (λ l. nthOf (listOf g (l .levels)) m) at d h in
+    let l = found .0 in
+    let holds = found .1 .2 in
+    let xs : List Item = listOf g (l .levels) in
+    let here-so : at .slot .0 ≡ slotAt (nthOf xs m) = ap (λ (z : Stand). z .slot .0) (stands-told t s (λ l. nthOf (listOf g (l .levels)) m) at l holds h) in
+    let on : step (at .slot .0) l ≡ nthOf xs (m + 1) = ap (λ (x : ℕ). step x l) here-so ∙ step-nth l (holds .carries .formed) (holds .carries .limit) g [] xs refl m in
+    stands-by t s (λ l. nthOf (listOf g (l .levels)) (m + 1)) (ofLink (w .after)) r (w .stands) (
+      ledger l,
+      found .1,
+      record {
+        answer = ap (λ z. reachedReply (ofLink z)) (w .leads .steps k f e p a i b sp s l holds) ∙ ap (λ (st : Step). reachedReply (told st)) on;
+        holds = holds;
+        leaves = λ z q. (refl, refl);
+      },
+    )
 
 -- ---- `nth`: how far the walker has come that began at `from`
 
@@ -180,6 +171,13 @@ pub gone-more : (k f e p n a i b sp : List ℕ) (m : ℕ) (from at r : Stand) (g
     Gone (tables k f e p n a i b sp) m from at gone → Gone (tables k f e p n a i b sp) m from r (gone + 1)
 gone-more k f e p n a i b sp m from at r gone l d w h =
     record { within = omega arith; place = λ s g q. nth-more k f e p n a i b sp s g gone at r d (h .place s g q) w }
+
+-- it may go on where it has answered no refusal
+pub gone-linked : (k f e p n a i b sp : List ℕ) (s : State) (g m : ℕ) (from at : Stand) (gone : ℕ) → isRefused (at .answer) ≡ false → Starts (tables k f e p n a i b sp) s g from →
+    Gone (tables k f e p n a i b sp) m from at gone → Linked n
+gone-linked k f e p n a i b sp s g m from at gone d w h =
+    let found = stands-held (tables k f e p n a i b sp) s (λ l. nthOf (listOf g (l .levels)) gone) at d (h .place s g w) in
+    (k, f, e, p, a, i, b, sp, s, (found .0, found .1 .2))
 
 pub gone-refused : (t : Tables) (s : State) (g n : ℕ) (from at : Stand) (gone : ℕ) → isRefused (at .answer) ≡ true → Starts t s g from → Gone t n from at gone → Nth t s g n at
 gone-refused t s g n from at gone e w h = nth-refused t s g gone n at (h .within) e (h .place s g w)

@@ -11,12 +11,12 @@ use Rattle.ledger.specs.Walk.{Step, listOf, head, start, step}
 use Rattle.buckets_tables.specs.declared.State.{State}
 use Rattle.buckets_tables.specs.Tables.{tables}
 use Rattle.buckets_tables.specs.Holds.{Holds}
-use Rattle.answers.specs.declared.Reached.the-variants.{At, NoMore, Refused}
+use Rattle.answers.specs.declared.Reached.the-variants.{Refused}
 use Rattle.buckets_walk.specs.declared.After.the-variants as link
 use Rattle.buckets_walk.specs.Walks.{linkAt}
 use Rattle.frequency_buckets_walker.specs.declared.Stand.{Stand}
 use Rattle.frequency_buckets_walker.specs.Stands.{NOWHERE, ofLink, standOf}
-use Rattle.frequency_buckets_walker.specs.Walks.{Starts, Steps}
+use Rattle.frequency_buckets_walker.specs.Walks.{Starts, Steps, Shows}
 use Rattle.frequency_buckets_walker.proofs.Places.{told, step-on, step-out, stands-told}
 
 -- Over any links at all, also those of a refused start: once out of range, a walker answers ABSENT for ever.
@@ -25,11 +25,6 @@ out-for-ever n small r q j w =
     let led : w .after ≡ link.Absent = w .leads .cell ∙ ap (linkAt n) j ∙ if-not-less NOWHERE (length n) _ link.Absent small in
     let z : q ≡ standOf (Refused Absent) = w .stands ∙ ap (λ a. standOf (ofLink a)) led in
     (ap (λ (y : Stand). y .answer) z, ap (λ (y : Stand). y .slot .0) z)
-
--- over the links n, a walker that stands at r shows these items, then "no more", then ABSENT
-abbrev pub Shows : List ℕ → Stand → List Item → Type 0
-Shows n r [] = (r .answer ≡ NoMore) × ((q : Stand) → Steps n r q → q .answer ≡ Refused Absent)
-Shows n r (x ∷ xs) = (r .answer ≡ At (record { 0 = x .slot })) × ((q : Stand) → Steps n r q → Shows n q xs)
 
 module _ (k f e p n a i b sp : List ℕ) (s : State) (l : Ledger) (h : Holds (tables k f e p n a i b sp) s l) where
   -- a step goes where the ledger's step does

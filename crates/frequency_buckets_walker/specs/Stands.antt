@@ -2,6 +2,7 @@
 use mathlib.Core.Bool.{Bool, true, false}
 use Prim.Native.Nat.{ℕ, _^_, _-_}
 use Rattle.numbers.specs.declared.Answer.the-variants.{Absent}
+use Rattle.numbers.specs.declared.Slot.{Slot}
 use Rattle.answers.specs.declared.Step.{Step}
 use Rattle.answers.specs.declared.Step.the-variants as step
 use Rattle.answers.specs.declared.Reached.{Reached}
@@ -31,7 +32,10 @@ abbrev pub NOWHERE : ℕ
 NOWHERE = 2 ^ 64 - 1
 
 -- a walker that has answered a slot stands there, and any other out of range
+abbrev pub placeOf : Reached → Slot
+placeOf (At x) = x
+placeOf NoMore = record { 0 = NOWHERE }
+placeOf (Refused a) = record { 0 = NOWHERE }
+
 abbrev pub standOf : Reached → Stand
-standOf (At x) = record { slot = x; answer = At x }
-standOf NoMore = record { slot = record { 0 = NOWHERE }; answer = NoMore }
-standOf (Refused a) = record { slot = record { 0 = NOWHERE }; answer = Refused a }
+standOf a = record { slot = placeOf a; answer = a }

@@ -1,6 +1,7 @@
 // A walker: it holds the links of the entries and where it stands in the list of a frequency. Its start checks the tables, its step only
-// the slot. The borrow checker covers no function over a struct that holds a slice, so these are thin and proved by hand; the work is
-// done in `plain`, on plain tables. Other callers take `first`, `onward` and `nth`, whose parameters are plain too.
+// the slot. The fields of a walker and of a stand are this crate's own: whoever holds one got it from a start, which checked the tables that
+// the walker holds. The borrow checker covers no function over a struct that holds a slice, so these are thin and proved by hand; the work
+// is done in `plain`, on plain tables. Other callers take `first`, `nth` and `sound::onward`, whose parameters are plain too.
 ghost use mathlib.Core.Path.{_≡_};
 ghost use Rattle.buckets_tables.specs.Slices.{before};
 ghost use Rattle.frequency_buckets_walker.specs.Stands.{isRefused};
@@ -10,21 +11,31 @@ use buckets_tables::State;
 use numbers::Frequency;
 use numbers::Slot;
 
-pub mod plain;
+mod plain;
+pub mod sound;
 
 // A place that is out of range of any table.
 const NOWHERE: u64 = 0xffff_ffff_ffff_ffff;
 
 // What a walker has answered last, and the slot it stands at. It stands out of range where it has answered no slot.
 pub struct Stand {
-    pub slot: Slot,
-    pub answer: Reached,
+    slot: Slot,
+    answer: Reached,
+}
+
+impl Stand {
+    // What was answered. Where that is a refusal, no slot is told beside it.
+    pub fn reached(self) -> Reached
+        ensures { λ r. ⌜ r ≡ self .answer ⌝ }
+    {
+        self.answer
+    }
 }
 
 // The links of the entries, and where it stands among them.
 pub struct Walker<'a> {
-    pub links: &'a [u64],
-    pub at: Stand,
+    links: &'a [u64],
+    at: Stand,
 }
 
 // Starts the walk of a frequency.
@@ -62,7 +73,8 @@ pub fn start<'a>(
     }
 }
 
-// Goes to the slot after the one it stands at.
+// Goes to the slot after the one it stands at. The tables need no check: they are as its start found them, and after a refused start it
+// stands out of range.
 pub fn step<'a>(w: Walker<'a>) -> Walker<'a>
     ensures { λ r. ⌜ (r .links ≡ w .entry .links) × Steps (now (w .entry .links)) (w .entry .at) (r .at) ⌝ }
 {
@@ -108,13 +120,6 @@ pub fn first<'a>(
         state,
         frequency,
     ))
-}
-
-// Where a walker goes from where one stands. So a walk that was put down goes on.
-pub fn onward(links: &[u64], at: Stand) -> Stand
-    ensures { λ r. ⌜ Steps (now (links .entry)) at r ⌝ }
-{
-    stands(step(Walker { links, at }))
 }
 
 // Whether a walker has answered a refusal.
@@ -164,7 +169,7 @@ pub fn nth<'a>(
         if is_refused(answer) {
             return at;
         }
-        at = onward(nexts, at);
+        at = sound::onward(nexts, at);
         gone += 1;
     }
     at

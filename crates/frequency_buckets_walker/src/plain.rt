@@ -1,7 +1,7 @@
 // The work of a walker, on plain tables: its start checks them and looks up the head of a list, its step follows one link.
 ghost use mathlib.Core.Path.{_≡_};
 ghost use Rattle.buckets_tables.specs.Slices.{before};
-ghost use Rattle.frequency_buckets_walker.specs.Stands.{ofStep, ofLink, standOf};
+ghost use Rattle.frequency_buckets_walker.specs.Stands.{ofStep, ofLink, placeOf, standOf};
 ghost use Rattle.frequency_buckets_walker.specs.Walks.{Starts, Steps};
 use crate::NOWHERE;
 use crate::Stand;
@@ -35,23 +35,24 @@ fn of_link(after: After) -> Reached
     }
 }
 
+// The slot that goes with an answer: out of range where none was answered.
+fn place(answer: Reached) -> Slot
+    ensures { λ r. ⌜ r ≡ placeOf answer ⌝ }
+{
+    match answer {
+        Reached::At(slot) => slot,
+        Reached::NoMore => Slot(NOWHERE),
+        Reached::Refused(_) => Slot(NOWHERE),
+    }
+}
+
 // Where a walker stands that has answered this.
 fn standing(answer: Reached) -> Stand
     ensures { λ r. ⌜ r ≡ standOf answer ⌝ }
 {
-    match answer {
-        Reached::At(slot) => Stand {
-            slot,
-            answer: Reached::At(slot),
-        },
-        Reached::NoMore => Stand {
-            slot: Slot(NOWHERE),
-            answer: Reached::NoMore,
-        },
-        Reached::Refused(why) => Stand {
-            slot: Slot(NOWHERE),
-            answer: Reached::Refused(why),
-        },
+    Stand {
+        slot: place(answer),
+        answer,
     }
 }
 
@@ -95,6 +96,6 @@ pub fn step_at(links: &[u64], at: Stand) -> Stand
     ensures { λ r. ⌜ Steps (now (links .entry)) at r ⌝ }
 {
     let slot = at.slot;
-    let after = buckets_walk::next(links, slot);
+    let after = buckets_walk::sound::next(links, slot);
     standing(of_link(after))
 }

@@ -28,7 +28,7 @@ returns : tie.Need-returns Inv-loop μ-loop
 returns c = laws.gone-refused _ _ _ _ _ _ _ (sym (c .before .is-refused .ensures) ∙ c .if1 .taken) (c .before .before .before .before .first .ensures) (c .before .before .before .loop .inv)
 
 onward-requires : tie.Need-onward-requires Inv-loop μ-loop
-onward-requires c κs = search needs
+onward-requires c κs = laws.gone-linked _ _ _ _ _ _ _ _ _ _ _ _ _ _ _ (sym (c .before .is-refused .ensures) ∙ c .if1 .left) (c .before .before .before .before .first .ensures) (c .before .before .before .loop .inv)
 
 add-gone : tie.Need-add-gone Inv-loop μ-loop
 add-gone c = search needs
@@ -37,7 +37,7 @@ loop-less : tie.Need-loop-less Inv-loop μ-loop
 loop-less c = omega arith
 
 loop-again : tie.Need-loop-again Inv-loop μ-loop
-loop-again c = laws.gone-more _ _ _ _ _ _ _ _ _ _ _ _ _ _ (c .before .before .before .loop-test .taken) (sym (c .before .before .is-refused .ensures) ∙ c .before .if1 .left) (c .onward .ensures) (c .before .before .before .before .loop .inv)
+loop-again c = laws.gone-more _ _ _ _ _ _ _ _ _ _ _ _ _ _ (c .before .before .before .loop-test .taken) (sym (c .before .before .is-refused .ensures) ∙ c .before .if1 .left) (c .onward .ensures .steps) (c .before .before .before .before .loop .inv)
 
 returns-2 : tie.Need-returns-2 Inv-loop μ-loop
 returns-2 c = laws.gone-end _ _ _ _ _ _ _ (c .loop-test .left) (c .before .before .first .ensures) (c .before .loop .inv)

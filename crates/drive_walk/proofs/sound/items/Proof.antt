@@ -1,47 +1,49 @@
--- Each turn writes the item that the walk stands at; what is left is shown from there on.
-use mathlib.Core.Path.{ap}
+-- Each turn writes the item that the reader stands at; what is left is shown from there on.
+use mathlib.Core.Path.{sym, _∙_}
 use borrow.Author.Needs.{needs}
 use native.Mathlib.Omega.{arith}
-use Rattle.answers.specs.Replies.{stepReply}
-use Rattle.drive_walk.proofs.Items.{past-all, nowhere, no-room, Written, begun, ended, more}
+use Rattle.drive_walk.proofs.Items.{linked, sizes, none-left, no-room, Written, begun, ended, more}
 use Rattle.drive_walk.proofs.sound.items.Statement.{statement}
 use Rattle.drive_walk.proofs.sound.items.Tie as tie
 
 abbrev Inv-loop : tie.InvT-loop
-Inv-loop k f e n out₀ at step₀ end₀ left₀ out step end left = Written k f e n step₀ out₀ at out step end left
+Inv-loop k e n out₀ at stand₀ end₀ left₀ out stand end left = Written k e n stand₀ out₀ at out stand end left
 
 abbrev μ-loop : tie.MeasureT-loop
-μ-loop k f e n out₀ at step₀ end₀ left₀ out step end left = left
+μ-loop k e n out₀ at stand₀ end₀ left₀ out stand end left = left
 
 loop-holds : tie.Need-loop-holds Inv-loop μ-loop
-loop-holds c = begun _ _ _ _ _ _ _
+loop-holds c = begun _ _ _ _ _ _ (c .before .before .before .before .pre .1)
 
-enum-known-step : tie.Need-enum-known-step Inv-loop μ-loop
-enum-known-step c = c .match .keys1
+reached-requires : tie.Need-reached-requires Inv-loop μ-loop
+reached-requires c κs = search needs
 
-item-requires : tie.Need-item-requires Inv-loop μ-loop
-item-requires c κs = omega (arith, c .before .before .before .before .before .loop .inv .size, c .before .before .before .before .before .loop .inv .room, c .before .before .before .before .before .before .before .before .before .before .before .pre .1)
-
-walk-step-requires : tie.Need-walk-step-requires Inv-loop μ-loop
-walk-step-requires c κs = c .before .before .before .before .before .before .before .before .before .before .before .before .before .before .pre .0
-
-enum-told : tie.Need-enum-told Inv-loop μ-loop
-enum-told c = c .match .keys2
+enum-known-slot : tie.Need-enum-known-slot Inv-loop μ-loop
+enum-known-slot c = c .match .keys1
 
 same-length : tie.Need-same-length Inv-loop μ-loop
 same-length c = search needs
 
 returns : tie.Need-returns Inv-loop μ-loop
-returns c = ended _ _ _ _ _ _ _ _ _ _ _ (c .before .before .before .loop .inv) (λ ys h b. past-all _ _ _ _ _ (ap stepReply (c .enum-told .given .1)) ys h)
+returns c = ended _ _ _ _ _ _ _ _ _ _ (c .before .before .before .loop .inv) (λ ys h fit. none-left _ _ _ (c .before .reached .ensures) (c .match .keys2) ys h)
 
-enum-told-2 : tie.Need-enum-told-2 Inv-loop μ-loop
-enum-told-2 c = c .match .keys3
+mul-epoch : tie.Need-mul-epoch Inv-loop μ-loop
+mul-epoch c = let below = c .before .before .before .before .before .loop .inv .place _ (sym (c .before .before .before .reached .ensures) ∙ c .before .slot .given .1) in let small = sizes _ _ _ (c .before .before .before .before .before .before .before .before .before .before .pre .0) .0 in omega arith
 
-same-length-2 : tie.Need-same-length-2 Inv-loop μ-loop
-same-length-2 c = search needs
+shared-slice-read-epoch : tie.Need-shared-slice-read-epoch Inv-loop μ-loop
+shared-slice-read-epoch c = c .before .before .before .before .before .before .loop .inv .place _ (sym (c .before .before .before .before .reached .ensures) ∙ c .before .before .slot .given .1)
 
-returns-2 : tie.Need-returns-2 Inv-loop μ-loop
-returns-2 c = ended _ _ _ _ _ _ _ _ _ _ _ (c .before .before .before .loop .inv) (λ ys h b. nowhere _ _ _ _ _ _ (ap stepReply (c .enum-told2 .given .1)) ys h)
+mul-epoch-2 : tie.Need-mul-epoch-2 Inv-loop μ-loop
+mul-epoch-2 c = let below = c .before .before .before .before .before .before .loop .inv .place _ (sym (c .before .before .before .before .reached .ensures) ∙ c .before .before .slot .given .1) in let small = sizes _ _ _ (c .before .before .before .before .before .before .before .before .before .before .before .pre .0) .0 in omega arith
+
+shared-slice-read-epoch-2 : tie.Need-shared-slice-read-epoch-2 Inv-loop μ-loop
+shared-slice-read-epoch-2 c = let below = c .before .before .before .before .before .before .before .loop .inv .place _ (sym (c .before .before .before .before .before .reached .ensures) ∙ c .before .before .before .slot .given .1) in let same = sizes _ _ _ (c .before .before .before .before .before .before .before .before .before .before .before .before .pre .0) .1 in omega arith
+
+item-requires : tie.Need-item-requires Inv-loop μ-loop
+item-requires c κs = omega (arith, c .before .before .before .before .before .before .before .before .loop .inv .size, c .before .before .before .before .before .before .before .before .loop .inv .room, c .before .before .before .before .before .before .before .before .before .before .before .before .before .pre .2)
+
+onward-requires : tie.Need-onward-requires Inv-loop μ-loop
+onward-requires c κs = linked _ _ _ (c .before .before .before .before .before .before .before .before .before .before .before .before .before .before .before .before .pre .0)
 
 sub-left : tie.Need-sub-left Inv-loop μ-loop
 sub-left c = search needs
@@ -50,13 +52,13 @@ loop-less : tie.Need-loop-less Inv-loop μ-loop
 loop-less c = search needs
 
 loop-again : tie.Need-loop-again Inv-loop μ-loop
-loop-again c = more _ _ _ _ _ _ _ _ _ _ _ _ _ _ _ (ap stepReply (c .before .before .before .before .before .before .step .given .1)) _ _ (c .before .before .before .item .ensures) _ (c .walk-step .ensures) (omega arith) (c .before .before .before .item .kept .0) (c .before .before .before .before .before .before .before .before .before .loop .inv)
+loop-again c = more _ _ _ _ _ _ _ _ _ _ _ (sym (c .before .before .before .before .before .before .before .before .slot .given .1) ∙ c .before .before .before .before .before .before .before .before .before .before .reached .ensures) _ _ (c .before .before .before .item .ensures) _ (c .onward .ensures) (omega arith) (c .before .before .before .before .before .before .before .before .before .before .before .before .before .before .before .before .before .pre .0) (c .before .before .before .item .kept .0) (c .before .before .before .before .before .before .before .before .before .before .before .before .loop .inv)
 
-same-length-3 : tie.Need-same-length-3 Inv-loop μ-loop
-same-length-3 c = search needs
+same-length-2 : tie.Need-same-length-2 Inv-loop μ-loop
+same-length-2 c = search needs
 
-returns-3 : tie.Need-returns-3 Inv-loop μ-loop
-returns-3 c = ended _ _ _ _ _ _ _ _ _ _ _ (c .before .loop .inv) (λ ys h b. no-room ys (omega arith))
+returns-2 : tie.Need-returns-2 Inv-loop μ-loop
+returns-2 c = ended _ _ _ _ _ _ _ _ _ _ (c .before .loop .inv) (λ ys h fit. no-room ys (omega arith))
 
 pub items-spec : {M : Type 1} → statement M
 items-spec =
@@ -65,17 +67,18 @@ items-spec =
     Inv-loop
     μ-loop
     loop-holds
-    enum-known-step
-    item-requires
-    walk-step-requires
-    enum-told
+    reached-requires
+    enum-known-slot
     same-length
     returns
-    enum-told-2
-    same-length-2
-    returns-2
+    mul-epoch
+    shared-slice-read-epoch
+    mul-epoch-2
+    shared-slice-read-epoch-2
+    item-requires
+    onward-requires
     sub-left
     loop-less
     loop-again
-    same-length-3
-    returns-3)
+    same-length-2
+    returns-2)

@@ -3,8 +3,8 @@ use native.Mathlib.Omega.{arith}
 use borrow.Author.Needs.{needs}
 use Rattle.lists.proofs.Tests.{said-no}
 use Rattle.buckets_walk.proofs.Walking as laws
-use Rattle.buckets_walk.proofs.next.Statement.{statement}
-use Rattle.buckets_walk.proofs.next.Tie as tie
+use Rattle.buckets_walk.proofs.sound.next.Statement.{statement}
+use Rattle.buckets_walk.proofs.sound.next.Tie as tie
 
 is-free-requires : tie.Need-is-free-requires
 is-free-requires c κs = search needs
