@@ -25,12 +25,12 @@ pub fn walk_start(
         (now (keys .entry)) (now (epochs .entry)) (now (buckets .entry)) state (asks (WalkStart (frequency .0))) (stepReply r) ⌝ }
 {
     let slot = levels::sound::head(buckets, state.buckets, frequency);
-    if slot == NONE {
+    if slot.0 == NONE {
         return Step::NoMore;
     }
-    let key = Key(keys[slot as usize]);
-    let epoch = epochs[slot as usize];
-    Step::Here(Slot(slot), key, frequency, epoch)
+    let key = Key(keys[slot.0 as usize]);
+    let epoch = epochs[slot.0 as usize];
+    Step::Here(slot, key, frequency, epoch)
 }
 
 // The slot after one, by the links. A slot out of range, or one that is marked free, has none.
@@ -43,10 +43,10 @@ pub fn next(nexts: &[u64], slot: Slot) -> After
     let s = slot.0 as usize;
     if s < nexts.len() {
         let after = levels::sound::next(nexts, slot);
-        if after == NONE {
+        if after.0 == NONE {
             return After::NoMore;
         }
-        return After::At(Slot(after));
+        return After::At(after);
     }
     After::Absent
 }

@@ -1,11 +1,9 @@
 -- The walker's promises leave no choice: two stands that one of them allows are equal. What carries it: one promise allows one reply, a reply
 -- is that of one answer, and a stand is that of its answer.
-use mathlib.Core.Path.{_≡_, refl, sym, ap, _∙_}
-use mathlib.Core.List.{List, [], _∷_}
+use mathlib.Core.Path.{_≡_, sym, ap, _∙_}
+use mathlib.Core.List.{List}
 use Prim.Native.Nat.{ℕ}
-use native.Mathlib.Omega.{arith}
 use Rattle.ledger.specs.Ledger.{Ledger}
-use Rattle.ledger.specs.Buckets.{Reply, done, refused}
 use Rattle.ledger.specs.Walk as ledger
 use Rattle.ledger.specs.Walk.{listOf, start}
 use Rattle.promise.proofs.Agree.{promised-agree}
@@ -13,30 +11,12 @@ use Rattle.buckets_tables.specs.declared.State.{State}
 use Rattle.buckets_tables.specs.Tables.{Tables}
 use Rattle.buckets_tables.specs.Lent as lent
 use Rattle.buckets_tables.proofs.Read.{holds-one}
-use Rattle.answers.specs.declared.Reached.{Reached}
-use Rattle.answers.specs.declared.Reached.the-variants.{At, NoMore, Refused}
 use Rattle.answers.specs.Replies.{reachedReply}
+use Rattle.answers.proofs.Injective.{reached-injective}
 use Rattle.buckets_walk.proofs.Walking.{leads-agree}
 use Rattle.frequency_buckets_walker.specs.declared.Stand.{Stand}
-use Rattle.frequency_buckets_walker.specs.Stands.{NOWHERE, ofLink, standOf}
+use Rattle.frequency_buckets_walker.specs.Stands.{ofLink, standOf}
 use Rattle.frequency_buckets_walker.specs.Walks.{shows, Stands, Starts, Steps, nthOf, Nth}
-
-abbrev number : Reply → ℕ
-number (done []) = NOWHERE
-number (done (n ∷ ns)) = n
-number (refused a) = NOWHERE
-
--- two answers with one reply are the same
-pub reached-injective : (a b : Reached) → reachedReply a ≡ reachedReply b → a ≡ b
-reached-injective (At x) (At y) e = λ i. At (record { 0 = ap number e i })
-reached-injective (At x) NoMore e = let c : _≡_ {A = ℕ} 0 1 = cc in absurd (omega arith)
-reached-injective (At x) (Refused a) e = let c : _≡_ {A = ℕ} 0 1 = cc in absurd (omega arith)
-reached-injective NoMore (At y) e = let c : _≡_ {A = ℕ} 0 1 = cc in absurd (omega arith)
-reached-injective NoMore NoMore e = refl
-reached-injective NoMore (Refused a) e = let c : _≡_ {A = ℕ} 0 1 = cc in absurd (omega arith)
-reached-injective (Refused a) (At y) e = let c : _≡_ {A = ℕ} 0 1 = cc in absurd (omega arith)
-reached-injective (Refused a) NoMore e = let c : _≡_ {A = ℕ} 0 1 = cc in absurd (omega arith)
-reached-injective (Refused a) (Refused b) e = let c : a ≡ b = cc in ap Refused c
 
 module _ (t : Tables) (s : State) where
   stands-agree : (walk : Ledger → ledger.Step) (r q : Stand) → Stands t s walk r → Stands t s walk q → r ≡ q

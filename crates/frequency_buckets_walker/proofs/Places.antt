@@ -24,11 +24,11 @@ use Rattle.buckets_tables.proofs.Read.{holds-one}
 use Rattle.answers.specs.declared.Reached.{Reached}
 use Rattle.answers.specs.declared.Reached.the-variants.{At, NoMore, Refused}
 use Rattle.answers.specs.Replies.{reachedReply}
+use Rattle.answers.proofs.Injective.{reached-injective}
 use Rattle.buckets_walk.specs.Walks.{slotOf}
 use Rattle.frequency_buckets_walker.specs.declared.Stand.{Stand}
 use Rattle.frequency_buckets_walker.specs.Stands.{NOWHERE, isRefused, ofLink, standOf}
 use Rattle.frequency_buckets_walker.specs.Walks.{shows, Stands, Starts, Steps, Linked, nthOf, Nth}
-use Rattle.frequency_buckets_walker.proofs.Agreeing.{reached-injective}
 use Rattle.frequency_buckets_walker.proofs.Answers.{stands-by}
 
 -- what a walker answers that stands where the ledger's walk does, and the slot it stands at

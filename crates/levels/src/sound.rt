@@ -268,25 +268,25 @@ pub fn lowest_frequency(buckets: &[u64], state: Buckets) -> Frequency
 }
 
 // The slot at the head of the level of a frequency, NONE where it is not in use. A step for each level below.
-pub fn head(buckets: &[u64], state: Buckets, frequency: Frequency) -> u64
+pub fn head(buckets: &[u64], state: Buckets, frequency: Frequency) -> Slot
     requires { ⌜ SoundWith (now buckets) state ⌝ }
-    ensures { λ r. ⌜ Heads (now (buckets .entry)) state (frequency .0) r ⌝ }
+    ensures { λ r. ⌜ Heads (now (buckets .entry)) state (frequency .0) (r .0) ⌝ }
 {
     let at = bucket_table::sound::place(buckets, state, frequency);
     let number = bucket_table::sound::above(buckets, state, at);
     if bucket_table::sound::is_level(buckets, number, frequency) {
         let ends = bucket_table::sound::ends(buckets, number);
-        return ends.head;
+        return Slot(ends.head);
     }
-    NONE
+    Slot(NONE)
 }
 
 // The slot after one in its list, NONE at the tail.
-pub fn next(nexts: &[u64], slot: Slot) -> u64
+pub fn next(nexts: &[u64], slot: Slot) -> Slot
     requires { ⌜ slot .0 < length (now nexts) ⌝ }
-    ensures { λ r. ⌜ r ≡ getD (now (nexts .entry)) (slot .0) 0 ⌝ }
+    ensures { λ r. ⌜ r .0 ≡ getD (now (nexts .entry)) (slot .0) 0 ⌝ }
 {
-    nexts[slot.0 as usize]
+    Slot(nexts[slot.0 as usize])
 }
 
 // No level: all slots are marked free.

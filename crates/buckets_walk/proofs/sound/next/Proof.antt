@@ -16,10 +16,10 @@ next-requires : tie.Need-next-requires
 next-requires c κs = c .if2 .taken
 
 returns-2 : tie.Need-returns-2
-returns-2 c = laws.next-none _ _ (c .before .before .if2 .taken) (λ e. said-no _ (c .before .before .before .before .is-free .ensures) (c .before .before .before .if1 .left) (c .before .before .if2 .taken, e)) _ (c .before .next .ensures) (c .if3 .taken)
+returns-2 c = laws.next-none _ _ (c .before .before .before .if2 .taken) (λ e. said-no _ (c .before .before .before .before .before .is-free .ensures) (c .before .before .before .before .if1 .left) (c .before .before .before .if2 .taken, e)) _ (c .before .before .next .ensures) (c .if3 .taken)
 
 returns-3 : tie.Need-returns-3
-returns-3 c = laws.next-at _ _ (c .before .before .if2 .taken) (λ e. said-no _ (c .before .before .before .before .is-free .ensures) (c .before .before .before .if1 .left) (c .before .before .if2 .taken, e)) _ (c .before .next .ensures) (c .if3 .left)
+returns-3 c = laws.next-at _ _ (c .before .before .before .if2 .taken) (λ e. said-no _ (c .before .before .before .before .before .is-free .ensures) (c .before .before .before .before .if1 .left) (c .before .before .before .if2 .taken, e)) _ (c .before .before .next .ensures) (c .if3 .left)
 
 returns-4 : tie.Need-returns-4
 returns-4 c = laws.next-outside _ _ (let left = c .if2 .left in omega arith)
