@@ -21,7 +21,7 @@ DRIVE_PART = 65518
 abbrev pub LAST : ℕ
 LAST = 262144
 
--- a table for the keys of a batch, a part of the input of which some bytes are carried out, and room to print from LAST on
+-- a table for the keys and values of a batch, a part of the input of which some bytes are carried out, and room to print from LAST on
 pub record DriveBuffers (items input : List ℕ) (next end : ℕ) (out : List ℕ) : Type 0 where
   pub places : length items ≡ LIMIT
   pub begun : next ≤ end

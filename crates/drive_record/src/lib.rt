@@ -1,5 +1,5 @@
 // One record of `drive`: a public call, by its operation, and its line in a lent buffer. It stands in `sound`, which is lent a table for the
-// keys of a batch and a buffer with room for the longest line.
+// keys and values of a batch and a buffer with room for the longest line.
 ghost use mathlib.Core.Path.{_≡_};
 ghost use Prim.Native.Nat.{_≤_};
 ghost use Rattle.drive_record.specs.Operations.{surplusOf};
