@@ -1,7 +1,7 @@
 """Inputs of `drive`: its edges, all short sequences, random runs.
 
-A run is on the buckets or on the cache, since the original cannot mix the two. Damage (30, 31) is left out: the original
-owns its memory.
+A run is on the buckets or on the cache, since the original cannot mix the two. Damage (30, 31), the cache's check (49) and
+values that are no pairs with their keys (66) are left out: the original owns its memory, keeps its buckets to itself and takes pairs.
 """
 
 from comparison.generation import (
@@ -16,7 +16,7 @@ INSERT_BATCH, TOUCH_BATCH, REMOVE_BATCH, CACHE_INSERT_BATCH, CACHE_REMOVE_BATCH,
 (CACHE_INSERT, CACHE_GET, CACHE_PEEK, CACHE_REMOVE, CACHE_CLEAR, CACHE_PEEK_LFU, CACHE_EVICT, CACHE_RESET,
  CACHE_LEN) = range(40, 49)
 BATCHES = range(60, 66)
-BAD_OPERATIONS = (0, *range(22, 30), *range(32, 40), *range(49, 60), *range(66, 256))
+BAD_OPERATIONS = (0, *range(22, 30), *range(32, 40), *range(50, 60), *range(67, 256))
 LARGEST_CAPACITY = LONGEST_BATCH = 4096
 
 # A capacity and how often it comes up in random runs. 4,097 and more are refused.

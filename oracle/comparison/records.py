@@ -22,8 +22,9 @@ BUCKET_CALLS = {
 CACHE_CALLS = {
     40: ("cache insert", 2), 41: ("cache get", 1), 42: ("cache peek", 1), 43: ("cache remove", 1),
     44: ("cache clear", 0), 45: ("cache peek_lfu", 0), 46: ("cache evict_min_freq", 0),
-    47: ("cache reset_frequency", 1), 48: ("cache len", 0),
+    47: ("cache reset_frequency", 1), 48: ("cache len", 0), 49: ("cache check", 0),
     63: ("cache insert_batch", 2), 64: ("cache remove_batch", 2), 65: ("cache touch_batch", 2),
+    66: ("cache insert_batch with a value too many", 2),
 }
 DRIVE_CALLS = BUCKET_CALLS | CACHE_CALLS
 

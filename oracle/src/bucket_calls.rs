@@ -26,7 +26,7 @@ impl BoundedBuckets {
             10 | 12 | 17..=19 => self.silent_change(record),
             6..=9 | 11 | 14..=16 | 20 | 21 => self.question(record),
             60..=62 => self.batch(record),
-            30 | 31 | 40..=48 | 63..=65 => SKIP.to_string(),
+            30 | 31 | 40..=49 | 63..=66 => SKIP.to_string(),
             _ => BAD.to_string(),
         }
     }

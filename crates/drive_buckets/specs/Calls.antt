@@ -5,14 +5,12 @@ use mathlib.Core.Option.{Option, none, some}
 use mathlib.Core.List.{List, [], _∷_}
 use Prim.Native.Nat.{ℕ, zero, suc, _+_, _^_, _%_}
 use lib.Dec.{eqb}
-use Rattle.numbers.specs.declared.Answer.{Answer}
 use Rattle.ledger.specs.Buckets.{Reply}
 use Rattle.ledger.specs.Calls.{BucketCall, Ask, PeekMin, MinFreq, Frequency, EntryEpoch, CurrentEpoch, Len, IsEmpty, Contains, Insert, Touch, TouchCapped, Remove, PopMin, SetEntryEpoch, SetEpoch, AdvanceEpoch, DecayHalve, RebaseMinFreq, Clear, InsertBatch, TouchBatch, RemoveBatch}
-use Rattle.promise.specs.Promise.{Checks, Makes}
+use Rattle.promise.specs.Promise.{Makes}
 use Rattle.buckets_tables.specs.declared.State.{State}
 use Rattle.buckets_tables.specs.Tables.{Tables}
 use Rattle.buckets_tables.specs.Lent.{buckets}
-use Rattle.answers.specs.Replies.{plainReply}
 use Rattle.drive_lines.specs.declared.Told.{Told}
 use Rattle.drive_lines.specs.Driving.{Stays}
 use Rattle.drive_lines.specs.Lines.{text, replyText}
@@ -74,7 +72,3 @@ ShowsBuckets c t s told t' s' = (r : Reply) × (text told ≡ replyText r) × Ma
 abbrev pub DrivesBuckets : Option BucketCall → Tables → State → Told → Tables → State → Type 0
 DrivesBuckets none t s told t' s' = Stays buckets t s told t' s'
 DrivesBuckets (some c) t s told t' s' = ShowsBuckets c t s told t' s'
-
--- the line of what the check of every call answers
-abbrev pub Reports : Tables → State → Told → Type 0
-Reports t s told = (a : Answer) × (text told ≡ replyText (plainReply a)) × Checks buckets t s a

@@ -1,7 +1,9 @@
 // The operations of `drive` on the frequency buckets, each a public call and the line of its answer. Every wide function lends the tables
 // in one order and by short names: k f e p n ar ix bk sp are keys, freqs, epochs, prevs, nexts, arena, index, buckets and spares.
 ghost use Rattle.buckets_tables.specs.Slices.{before, after};
-ghost use Rattle.drive_buckets.specs.Calls.{bucketCall, Reports, DrivesBuckets};
+ghost use Rattle.buckets_tables.specs.Lent.{buckets};
+ghost use Rattle.drive_lines.specs.Driving.{Reports};
+ghost use Rattle.drive_buckets.specs.Calls.{bucketCall, DrivesBuckets};
 use buckets_tables::State;
 use cases::whole;
 use drive_lines::Driven;
@@ -78,7 +80,7 @@ pub fn check(
     sp: &[u64],
     state: State,
 ) -> Told
-    ensures { λ r. ⌜ Reports (before k f e p n ar ix bk sp) state r ⌝ }
+    ensures { λ r. ⌜ Reports buckets (before k f e p n ar ix bk sp) state r ⌝ }
 {
     plain(buckets_check::refusal(k, f, e, p, n, ar, ix, bk, sp, state))
 }

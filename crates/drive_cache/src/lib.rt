@@ -1,8 +1,9 @@
-// The cache's operations of `drive`: each is one public call, and what is told of its answer. The tables are named k f e p n ar ix bk sp vs:
+// The cache's operations of `drive`: each is one public call, or the check that they all make, and what is told of its answer. The tables are named k f e p n ar ix bk sp vs:
 // keys, freqs, epochs, prevs, nexts, arena, index, buckets, spares and values.
 ghost use Rattle.cache_tables.specs.Slices.{before, after};
-ghost use Rattle.drive_cache.specs.Operations.{question, cacheCall, batchCall, DrivesCache, DrivesCacheAll};
+ghost use Rattle.drive_cache.specs.Operations.{question, cacheCall, batchCall, DrivesCache};
 use buckets_tables::State;
+use cache_check::refusal;
 use drive_lines::Driven;
 use drive_lines::Told;
 use drive_lines::after::counted;
@@ -14,6 +15,7 @@ use drive_lines::after::valued;
 use drive_lines::cached::least;
 use drive_lines::cached::value;
 use drive_lines::count;
+use drive_lines::plain;
 use lfu::evict_min_freq;
 use lfu::get;
 use lfu::insert;
@@ -51,6 +53,7 @@ pub fn asks(
         42 => value(peek(k, f, e, p, n, ar, ix, bk, sp, vs, state, Key(a))),
         45 => least(peek_lfu(k, f, e, p, n, ar, ix, bk, sp, vs, state)),
         48 => count(len(k, f, e, p, n, ar, ix, bk, sp, vs, state)),
+        49 => plain(refusal(k, f, e, p, n, ar, ix, bk, sp, vs, state)),
         _ => Told::Just(Word::Bad),
     }
 }
@@ -90,7 +93,7 @@ pub fn act(
     }
 }
 
-// One operation on several keys. A key that is inserted is its own value.
+// One operation on several keys; an insert is given values too.
 pub fn batch(
     k: &mut [u64],
     f: &mut [u64],
@@ -104,14 +107,15 @@ pub fn batch(
     vs: &mut [u64],
     state: State,
     items: &[u64],
+    given: &[u64],
     code: u8,
 ) -> Driven
-    ensures { λ r. ⌜ DrivesCacheAll (batchCall code (now (items .entry)))
+    ensures { λ r. ⌜ DrivesCache (batchCall code (now (items .entry)) (now (given .entry)))
         (before k f e p n ar ix bk sp vs) state (r .told)
         (after k f e p n ar ix bk sp vs) (r .state) ⌝ }
 {
     match code {
-        63 => counted(insert_batch(k, f, e, p, n, ar, ix, bk, sp, vs, state, items, items)),
+        63 | 66 => counted(insert_batch(k, f, e, p, n, ar, ix, bk, sp, vs, state, items, given)),
         64 => counted(remove_batch(k, f, e, p, n, ar, ix, bk, sp, vs, state, items)),
         65 => counted(touch_batch(k, f, e, p, n, ar, ix, bk, sp, vs, state, items)),
         _ => Driven {

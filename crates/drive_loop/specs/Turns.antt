@@ -1,19 +1,14 @@
--- What the turns of `drive` do: for each record, in order, a line by the promise of its public call. Which bytes standard input has and which
--- reach standard output no contract can say: those that were read stand in the input buffer, those that are written in the output buffer.
+-- What the turns of `drive` do: for each record, in order, a line by the promise of its public call. Which bytes an input has and which reach
+-- standard output no contract can say: those that were read stand in the input buffer, those that are written in the output buffer.
 use mathlib.Core.Path.{_≡_}
-use mathlib.Core.Bool.{cond}
 use mathlib.Core.List.{List, [], _++_}
 use Prim.Native.Nat.{ℕ, _+_, _≤_, _<_}
-use lib.Dec.{ltb}
 use lib.ListN.{length, take}
 use Rattle.numbers.specs.Marks.{LIMIT}
 use Rattle.buckets_tables.specs.declared.State.{State}
 use Rattle.cache_tables.specs.Tables.{CacheTables}
-use Rattle.trace.specs.declared.Word.the-variants as word
 use Rattle.trace.specs.Output.{RECORD, codeOf, keyOf, valueOf}
 use Rattle.trace_input.specs.Feeding.{recordAt}
-use Rattle.drive_lines.specs.declared.Told.{Told}
-use Rattle.drive_lines.specs.declared.Told.the-variants.{Just}
 use Rattle.drive_walk.specs.Walk.{WALK}
 use Rattle.drive_record.specs.Steps.{DrivePrints}
 use Rattle.drive_loop.specs.declared.Fed.{Fed}
@@ -26,7 +21,7 @@ DRIVE_PART = 65518
 abbrev pub LAST : ℕ
 LAST = 262144
 
--- a table for the keys of a batch, a part of the input of which some bytes are carried out, and room to print from LAST on
+-- a table for the keys and values of a batch, a part of the input of which some bytes are carried out, and room to print from LAST on
 pub record DriveBuffers (items input : List ℕ) (next end : ℕ) (out : List ℕ) : Type 0 where
   pub places : length items ≡ LIMIT
   pub begun : next ≤ end
@@ -48,10 +43,6 @@ pub record DriveFeeds (input : List ℕ) (from end : ℕ) (t : CacheTables) (s :
   pub room : r .at ≤ length out'
   pub goes : from + RECORD ≤ end → from < r .next
   pub served : Serves input from t s (r .next) (take (r .at) out') t' (r .state)
-
--- the line at the end of the input, of which so many bytes are left
-abbrev pub lastTold : ℕ → Told
-lastTold left = cond (ltb 0 left) (Just word.Cut) (Just word.End)
 
 -- a turn carries out records and writes what they print; where less than a record is left it changes no table
 pub record DriveTurns (input : List ℕ) (from end : ℕ) (t : CacheTables) (s : State) (items' input' : List ℕ) (t' : CacheTables) (out' : List ℕ) (r : Turned) : Type 0 where

@@ -1,6 +1,6 @@
-// The program `drive` but for its `main`: standard input to standard output, in large parts.
+// The program `drive` but for its `main`: from a descriptor that can be read to standard output, in large parts.
 ghost use mathlib.Core.Path.{_≡_};
-ghost use Rattle.drive_loop.specs.Turns.{lastTold};
+ghost use Rattle.drive_loop.specs.Ends.{headerOf, lastTold};
 use buckets_tables::State;
 use drive_lines::Told;
 use trace::Word;
@@ -31,11 +31,27 @@ pub struct Turned {
     pub state: State,
 }
 
+// What an input begins with: the capacity of its tables, or fewer bytes than that takes.
+pub enum Header {
+    Capacity(usize),
+    Cut,
+}
+
 // Prints a line, and says whether it could be written.
 fn say(told: Told) -> bool {
     let mut out = [0u8; 128];
     let n = drive_lines::sound::write(&mut out, 0, told);
     io::write_all(1, &out[..n])
+}
+
+// The capacity, low byte first, of an input that begins with these bytes.
+fn header_of(first: &[u8]) -> Header
+    ensures { λ r. ⌜ r ≡ headerOf (now (first .entry)) ⌝ }
+{
+    if first.len() < 2 {
+        return Header::Cut;
+    }
+    Header::Capacity(two_bytes(first[0], first[1]))
 }
 
 // The line at the end of the input, of which so many bytes are left.
@@ -48,13 +64,14 @@ fn last_line(left: usize) -> Told
     Told::Just(Word::End)
 }
 
-// Reads the capacity, makes the tables, and carries out the records.
-pub fn drive() {
+// Reads the capacity from a descriptor, makes the tables, and carries out the records that follow.
+pub fn drive(source: i32) {
     let mut first = [0u8; 2];
-    let n = io::read_full(0, &mut first);
-    if n < 2 {
-        say(Told::Just(Word::Cut));
-        return;
+    let n = io::read_full(source, &mut first);
+    match header_of(&first[..n]) {
+        Header::Capacity(capacity) => sound::start(capacity, source),
+        Header::Cut => {
+            say(Told::Just(Word::Cut));
+        }
     }
-    sound::start(two_bytes(first[0], first[1]));
 }

@@ -1,5 +1,5 @@
-// The turns of `drive`, on buffers of known lengths. The tables may hold anything: every call checks. They are named k f e p n ar ix bk sp vs:
-// keys, freqs, epochs, prevs, nexts, arena, index, buckets, spares and values.
+// The turns of `drive`, on buffers of known lengths, from the descriptor `source`. The tables may hold anything: every call checks. They are
+// named k f e p n ar ix bk sp vs: keys, freqs, epochs, prevs, nexts, arena, index, buckets, spares and values.
 ghost use mathlib.Core.Path.{_≡_};
 ghost use Prim.Native.Nat.{_≤_};
 ghost use lib.ListN.{length};
@@ -88,7 +88,7 @@ fn feed(
 }
 
 // Where less than a record is left: reads on, or prints the last line where there is no more.
-fn onward(input: &mut [u8], from: usize, end: usize, state: State) -> Turned
+fn onward(input: &mut [u8], from: usize, end: usize, state: State, source: i32) -> Turned
     requires { ⌜ (from ≤ end) × (end ≤ FULL) × (FULL ≤ length (now input)) ⌝ }
     ensures { λ r. ⌜ (r .next ≤ r .end) × (r .end ≤ FULL) × (r .state ≡ state) ⌝ }
 {
@@ -105,7 +105,7 @@ fn onward(input: &mut [u8], from: usize, end: usize, state: State) -> Turned
     Turned {
         more: true,
         at: 0,
-        end: io::read_full(0, &mut input[..PART]),
+        end: io::read_full(source, &mut input[..PART]),
         next: 0,
         state: state,
     }
@@ -129,6 +129,7 @@ fn turn(
     from: usize,
     end: usize,
     out: &mut [u8],
+    source: i32,
 ) -> Turned
     requires { ⌜ DriveBuffers (now items) (now input) from end (now out) ⌝ }
     ensures { λ r. ⌜ DriveTurns (now (input .entry)) from end
@@ -136,7 +137,7 @@ fn turn(
         (after k f e p n ar ix bk sp vs) (now (out .exit)) r ⌝ }
 {
     if end - from < RECORD {
-        return onward(input, from, end, state);
+        return onward(input, from, end, state, source);
     }
     let fed = feed(
         k,
@@ -181,6 +182,7 @@ fn run(
     sp: &mut [u64],
     vs: &mut [u64],
     state: State,
+    source: i32,
 ) {
     let mut items = [0u64; 4096];
     let mut input = io::large_buffer();
@@ -208,6 +210,7 @@ fn run(
             next,
             end,
             &mut out,
+            source,
         );
         after = turned.state;
         next = turned.next;
@@ -230,12 +233,13 @@ fn begin(
     sp: &mut [u64],
     vs: &mut [u64],
     capacity: u64,
+    source: i32,
 ) {
     let made = lfu_make::new(k, f, e, p, n, ar, ix, bk, sp, vs, capacity);
     let why = made.answer;
     if why.is_done() {
         let state = made.state;
-        run(k, f, e, p, n, ar, ix, bk, sp, vs, state);
+        run(k, f, e, p, n, ar, ix, bk, sp, vs, state, source);
         return;
     }
     say(Told::Alone(why));
@@ -252,7 +256,7 @@ fn places(capacity: usize) -> usize
 }
 
 // The tables hold 4,096 slots, of which the first places are lent.
-pub fn start(capacity: usize) {
+pub fn start(capacity: usize, source: i32) {
     let mut keys = [0u64; 4096];
     let mut freqs = [0u64; 4096];
     let mut epochs = [0u64; 4096];
@@ -278,5 +282,6 @@ pub fn start(capacity: usize) {
         &mut spares[..lent],
         &mut values[..lent],
         capacity as u64,
+        source,
     )
 }

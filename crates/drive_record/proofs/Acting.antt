@@ -1,28 +1,31 @@
 -- Which operation a code is, by the tests on the way to it; there the table of operations computes. What is done is the promise of the call.
 use mathlib.Core.Path.{_≡_, refl, sym, ap, _∙_, subst}
-use mathlib.Core.List.{List, _++_}
-use Prim.Native.Nat.{ℕ, _≤_, _<_}
+use mathlib.Core.List.{List, _∷_, _++_}
+use Prim.Native.Nat.{ℕ, zero, suc, _+_, _-_, _^_, _%_, _≤_, _<_}
+use native.Mathlib.Omega.{arith}
 use lib.ListN.{length, take, drop}
 use lib.Seq.{length-take-le, length-front, take-append-seam}
 use borrow.Author.Tests.{ne-eqb, lt-ltb, le-ltb}
 use Rattle.numbers.specs.Marks.{LIMIT}
 use Rattle.buckets_tables.specs.declared.State.{State}
+use Rattle.buckets_tables.specs.Lent.{buckets}
 use Rattle.cache_tables.specs.Tables.{CacheTables}
 use Rattle.trace.specs.declared.Word.{Word}
 use Rattle.trace.specs.declared.Word.the-variants.{Bad}
 use Rattle.drive_lines.specs.declared.Told.{Told}
 use Rattle.drive_lines.specs.declared.Told.the-variants.{Just}
+use Rattle.drive_lines.specs.Driving.{Reports}
 use Rattle.drive_buckets.specs.Calls as bucket
-use Rattle.drive_buckets.specs.Calls.{bucketCall, keysFrom, Reports}
+use Rattle.drive_buckets.specs.Calls.{bucketCall, keysFrom}
 use Rattle.drive_damage.specs.Damage.{Damages, Alters}
 use Rattle.drive_cache.specs.Operations as cached
-use Rattle.drive_cache.specs.Operations.{cacheCall}
-use Rattle.drive_record.specs.Operations.{operationOf, batchOf, Acts}
+use Rattle.drive_cache.specs.Operations.{cacheCall, DrivesCache}
+use Rattle.drive_record.specs.Operations.{operationOf, surplusOf, batchOf, Acts}
 
 module _ (code a b : ℕ) (t : CacheTables) (s : State) (told : Told) (t' : CacheTables) (s' : State) where
   -- Single operations
 
-  pub acted-check : code ≡ 21 → Reports (t .base) s told → t' ≡ t → s' ≡ s → Acts (operationOf code a b) a b t s told t' s'
+  pub acted-check : code ≡ 21 → Reports buckets (t .base) s told → t' ≡ t → s' ≡ s → Acts (operationOf code a b) a b t s told t' s'
   acted-check e p q r = rw e (p, q, r)
 
   pub acted-store : code ≡ 30 → (w : Word) → told ≡ Just w → Damages a b t w t' → s' ≡ s → Acts (operationOf code a b) a b t s told t' s'
@@ -36,7 +39,7 @@ module _ (code a b : ℕ) (t : CacheTables) (s : State) (told : Told) (t' : Cach
         Acts (operationOf code a b) a b t s told t' s'
     acted-bucket h d q = rw (ne-eqb code 21 not-check, ne-eqb code 30 not-store, ne-eqb code 31 not-field, lt-ltb code 40 h) (d, q)
 
-    pub acted-cache : 40 ≤ code → code < 60 → cached.DrivesCache (cacheCall code a b) t s told t' s' → Acts (operationOf code a b) a b t s told t' s'
+    pub acted-cache : 40 ≤ code → code < 60 → DrivesCache (cacheCall code a b) t s told t' s' → Acts (operationOf code a b) a b t s told t' s'
     acted-cache l h d = rw (ne-eqb code 21 not-check, ne-eqb code 30 not-store, ne-eqb code 31 not-field, le-ltb code 40 l, lt-ltb code 60 h) d
 
     pub acted-batch : 40 ≤ code → 60 ≤ code → Acts (batchOf code a b) a b t s told t' s' → Acts (operationOf code a b) a b t s told t' s'
@@ -44,25 +47,34 @@ module _ (code a b : ℕ) (t : CacheTables) (s : State) (told : Told) (t' : Cach
 
   -- Batches
 
-  pub batched-bucket : b ≤ LIMIT → code < 63 → (ks : List ℕ) → ks ≡ keysFrom a b →
-      bucket.DrivesBuckets (bucket.batchCall code ks) (t .base) s told (t' .base) s' → t' .values ≡ t .values → Acts (batchOf code a b) a b t s told t' s'
-  batched-bucket l h ks e d q = rw (le-ltb LIMIT b l, lt-ltb code 63 h, sym e) (d, q)
+  module _ (m : ℕ) (more : m ≡ surplusOf code) (few : b ≤ LIMIT - m) (ks : List ℕ) (keys : ks ≡ keysFrom a b) where
+    pub batched-bucket : code < 63 → bucket.DrivesBuckets (bucket.batchCall code ks) (t .base) s told (t' .base) s' → t' .values ≡ t .values →
+        Acts (batchOf code a b) a b t s told t' s'
+    batched-bucket h d q = rw (sym more, le-ltb (LIMIT - m) b few, lt-ltb code 63 h, sym keys) (d, q)
 
-  pub batched-cache : b ≤ LIMIT → 63 ≤ code → (ks : List ℕ) → ks ≡ keysFrom a b → cached.DrivesCacheAll (cached.batchCall code ks) t s told t' s' →
-      Acts (batchOf code a b) a b t s told t' s'
-  batched-cache l h ks e d = rw (le-ltb LIMIT b l, le-ltb code 63 h, sym e) d
+    pub batched-cache : 63 ≤ code → (vs : List ℕ) → vs ≡ keysFrom a (b + m) → DrivesCache (cached.batchCall code ks vs) t s told t' s' →
+        Acts (batchOf code a b) a b t s told t' s'
+    batched-cache h vs values d = rw (sym more, le-ltb (LIMIT - m) b few, le-ltb code 63 h, sym keys, sym values) d
 
--- more keys than there can be slots: nothing is done
-pub batched-bad : (code a b : ℕ) (t : CacheTables) (s : State) → LIMIT < b → Acts (batchOf code a b) a b t s (Just Bad) t s
-batched-bad code a b t s h = rw (lt-ltb LIMIT b h) ((refl, refl, refl), refl)
+-- more keys or values than there can be slots: nothing is done
+pub batched-bad : (code a b : ℕ) (t : CacheTables) (s : State) (m : ℕ) → m ≡ surplusOf code → LIMIT - m < b → Acts (batchOf code a b) a b t s (Just Bad) t s
+batched-bad code a b t s m more h = rw (sym more, lt-ltb (LIMIT - m) b h) ((refl, refl, refl), refl)
 
--- The keys of a batch fill the first b places of their table
+-- The values of a batch fill the first n places of their table, and begin with its keys
 
-pub lent-size : (b : ℕ) (items got : List ℕ) → b ≤ length items → length got ≡ length (take b items) → length (take b (got ++ drop b items)) ≡ b
-lent-size b items got h kept = length-take-le b (got ++ drop b items) (subst (λ (m : ℕ). b ≤ m) (sym (length-front items got b kept)) h)
+module _ (n : ℕ) (items got : List ℕ) (room : n ≤ length items) (kept : length got ≡ length (take n items)) where
+  pub values-size : length (take n (got ++ drop n items)) ≡ n
+  values-size = let size = length-front items got n kept in length-take-le n (got ++ drop n items) (omega arith)
 
-pub keys-lent : (a b : ℕ) (items got : List ℕ) → b ≤ length items → length got ≡ length (take b items) → got ≡ keysFrom a (length (take b items)) →
-    take b (got ++ drop b items) ≡ keysFrom a b
-keys-lent a b items got h kept filled =
-    let size : length (take b items) ≡ b = length-take-le b items h in
-    ap (λ (m : ℕ). take m (got ++ drop b items)) (sym (kept ∙ size)) ∙ take-append-seam got (drop b items) ∙ filled ∙ ap (keysFrom a) size
+  pub values-lent : (a : ℕ) → got ≡ keysFrom a (length (take n items)) → take n (got ++ drop n items) ≡ keysFrom a n
+  values-lent a filled =
+      let size : length (take n items) ≡ n = length-take-le n items room in
+      ap (λ (m : ℕ). take m (got ++ drop n items)) (sym (kept ∙ size)) ∙ take-append-seam got (drop n items) ∙ filled ∙ ap (keysFrom a) size
+
+front : (a b n : ℕ) → b ≤ n → take b (keysFrom a n) ≡ keysFrom a b
+front a zero n h = refl
+front a (suc b) zero h = absurd (omega arith)
+front a (suc b) (suc n) h = ap (λ (ks : List ℕ). a ∷ ks) (front ((a + 1) % 2 ^ 64) b n (omega arith))
+
+pub keys-lent : (a b n : ℕ) (values : List ℕ) → b ≤ n → values ≡ keysFrom a n → take b values ≡ keysFrom a b
+keys-lent a b n values h e = ap (take b) e ∙ front a b n h

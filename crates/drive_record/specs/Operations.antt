@@ -2,23 +2,22 @@
 use mathlib.Core.Path.{_≡_}
 use mathlib.Core.Bool.{cond}
 use mathlib.Core.Option.{Option, none}
-use Prim.Native.Nat.{ℕ}
+use Prim.Native.Nat.{ℕ, _+_, _-_}
 use lib.Dec.{eqb, ltb}
 use Rattle.numbers.specs.Marks.{LIMIT}
-use Rattle.ledger.specs.Cache.{Cache}
 use Rattle.ledger.specs.Calls.{BucketCall}
-use Rattle.ledger.specs.History.{CacheCall}
-use Rattle.ledger.specs.CacheCalls.{CacheOutcome}
 use Rattle.buckets_tables.specs.declared.State.{State}
+use Rattle.buckets_tables.specs.Lent.{buckets}
 use Rattle.cache_tables.specs.Tables.{CacheTables}
 use Rattle.trace.specs.declared.Word.{Word}
 use Rattle.drive_lines.specs.declared.Told.{Told}
 use Rattle.drive_lines.specs.declared.Told.the-variants.{Just}
+use Rattle.drive_lines.specs.Driving.{Reports}
 use Rattle.drive_buckets.specs.Calls as bucket
 use Rattle.drive_buckets.specs.Calls.{bucketCall, keysFrom}
 use Rattle.drive_damage.specs.Damage.{Damages, Alters}
 use Rattle.drive_cache.specs.Operations as cached
-use Rattle.drive_cache.specs.Operations.{cacheCall}
+use Rattle.drive_cache.specs.Operations.{CacheOperation, cacheCall, DrivesCache}
 
 -- What an operation asks for. An operation that is none asks for no call.
 pub data Operation : Type 0 where
@@ -26,15 +25,18 @@ pub data Operation : Type 0 where
   Store : Operation
   SetField : Operation
   OnBuckets : Option BucketCall → Operation
-  OnCache : Option CacheCall → Operation
-  OnMany : Option (Cache → CacheOutcome) → Operation
+  OnCache : CacheOperation → Operation
 
--- batches of at most as many keys as there can be slots
+-- how many values more than keys a batch is given: one at 66, where the two differ in length
+abbrev pub surplusOf : (code : ℕ) → ℕ
+surplusOf code = cond (eqb code 66) 1 0
+
+-- batches of at most as many keys, and as many values, as there can be slots; a key is its own value
 abbrev pub batchOf : (code a b : ℕ) → Operation
 batchOf code a b =
-    cond (ltb LIMIT b) (OnBuckets none)
+    cond (ltb (LIMIT - surplusOf code) b) (OnBuckets none)
     (cond (ltb code 63) (OnBuckets (bucket.batchCall code (keysFrom a b)))
-    (OnMany (cached.batchCall code (keysFrom a b))))
+    (OnCache (cached.batchCall code (keysFrom a b) (keysFrom a (b + surplusOf code)))))
 
 abbrev pub operationOf : (code a b : ℕ) → Operation
 operationOf code a b =
@@ -46,9 +48,8 @@ operationOf code a b =
 
 -- what is told, and the tables and the state after it
 abbrev pub Acts : Operation → (a b : ℕ) → CacheTables → State → Told → CacheTables → State → Type 0
-Acts Check a b t s told t' s' = bucket.Reports (t .base) s told × (t' ≡ t) × (s' ≡ s)
+Acts Check a b t s told t' s' = Reports buckets (t .base) s told × (t' ≡ t) × (s' ≡ s)
 Acts Store a b t s told t' s' = (w : Word) × (told ≡ Just w) × Damages a b t w t' × (s' ≡ s)
 Acts SetField a b t s told t' s' = (w : Word) × (told ≡ Just w) × Alters a b s w s' × (t' ≡ t)
 Acts (OnBuckets c) a b t s told t' s' = bucket.DrivesBuckets c (t .base) s told (t' .base) s' × (t' .values ≡ t .values)
-Acts (OnCache c) a b t s told t' s' = cached.DrivesCache c t s told t' s'
-Acts (OnMany f) a b t s told t' s' = cached.DrivesCacheAll f t s told t' s'
+Acts (OnCache c) a b t s told t' s' = DrivesCache c t s told t' s'

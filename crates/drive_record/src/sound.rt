@@ -1,5 +1,5 @@
-// One record of `drive`, by its operation. The keys of a batch are put into a table of their own, which is known to have a place for each
-// slot that there can be. The tables are named k f e p n ar ix bk sp vs: keys, freqs, epochs, prevs, nexts, arena, index, buckets, spares
+// One record of `drive`, by its operation. The keys and values of a batch are put into a table of their own, which is known to have a place
+// for each slot that there can be. The tables are named k f e p n ar ix bk sp vs: keys, freqs, epochs, prevs, nexts, arena, index, buckets, spares
 // and values.
 ghost use mathlib.Core.Path.{_≡_};
 ghost use Prim.Native.Nat.{_+_, _≤_};
@@ -11,6 +11,7 @@ ghost use Rattle.drive_record.specs.Operations.{Acts, operationOf, batch
 ghost use Rattle.drive_record.specs.Steps.{DriveSteps};
 use crate::Stepped;
 use crate::altered;
+use crate::surplus;
 use buckets_tables::State;
 use drive_buckets::batches;
 use drive_buckets::batches::fill;
@@ -23,7 +24,7 @@ use drive_walk::sound::walk;
 use numbers::LIMIT;
 use trace::Word;
 
-// A batch of at most as many keys as there can be slots.
+// A batch of at most as many keys, and as many values, as there can be slots. A key is its own value.
 fn batch(
     k: &mut [u64],
     f: &mut [u64],
@@ -46,19 +47,22 @@ fn batch(
         (before k f e p n ar ix bk sp vs) state (r .told)
         (after k f e p n ar ix bk sp vs) (r .state) ⌝ }
 {
-    if b > LIMIT {
+    let more = surplus(code);
+    if b > LIMIT - more {
         return Driven {
             told: Told::Just(Word::Bad),
             state: state,
         };
     }
     let many = b as usize;
-    fill(&mut items[..many], a);
-    let keys = &items[..many];
+    let given = many + more as usize;
+    fill(&mut items[..given], a);
+    let values = &items[..given];
+    let keys = &values[..many];
     if code < 63 {
         return batches::batch(k, f, e, p, n, ar, ix, bk, sp, state, keys, code);
     }
-    drive_cache::batch(k, f, e, p, n, ar, ix, bk, sp, vs, state, keys, code)
+    drive_cache::batch(k, f, e, p, n, ar, ix, bk, sp, vs, state, keys, values, code)
 }
 
 // One record but a walk.

@@ -1,7 +1,7 @@
--- Each arm is the batch of its number; slices of one length are one list of pairs.
+-- Each arm is the batch of its number.
 use denote.Ref.{now}
 use mathlib.Core.Path.{refl}
-use Rattle.drive_cache.proofs.Driving.{batched, acted-all, acted-none}
+use Rattle.drive_cache.proofs.Driving.{batched, all-inserted, acted-all, acted-inserts, acted-none}
 use Rattle.drive_cache.proofs.batch.Statement.{statement}
 use Rattle.drive_cache.proofs.batch.Tie as tie
 
@@ -54,7 +54,7 @@ same-length-10 : tie.Need-same-length-10
 same-length-10 c = c .before .before .before .before .before .before .before .before .before .before .before .before .before .before .before .before .before .before .before .before .before .insert-batch .kept .1 .1 .1 .1 .1 .1 .1 .1 .1 .0
 
 returns : tie.Need-returns
-returns c = acted-all _ _ _ _ _ _ 63 (c .before .before .before .before .before .before .before .before .before .before .before .before .before .before .before .before .before .before .before .before .before .before .before .before .before .before .before .before .before .before .before .before .match .keys1) (now (c .before .before .before .before .before .before .before .before .before .before .before .before .before .before .before .before .before .before .before .before .before .before .before .before .before .before .before .before .before .before .before .before .before .before .before .before .before .before .before .before .before .before .before .before .args .items)) (batched _ _ _ _ _ _ (c .counted .ensures .1) _ _ (c .counted .ensures .0) (c .before .before .before .before .before .before .before .before .before .before .before .before .before .before .before .before .before .before .before .before .before .insert-batch .ensures .even refl))
+returns c = acted-inserts _ _ _ _ _ _ _ _ (c .before .before .before .before .before .before .before .before .before .before .before .before .before .before .before .before .before .before .before .before .before .before .before .before .before .before .before .before .before .before .before .before .match .keys1) (all-inserted _ _ _ _ _ _ (c .counted .ensures .1) _ _ _ (c .counted .ensures .0) (c .before .before .before .before .before .before .before .before .before .before .before .before .before .before .before .before .before .before .before .before .before .insert-batch .ensures))
 
 same-length-11 : tie.Need-same-length-11
 same-length-11 c = c .before .before .before .before .before .before .before .before .before .before .before .before .before .before .before .before .before .before .before .before .before .remove-batch .kept .0
@@ -87,7 +87,7 @@ same-length-20 : tie.Need-same-length-20
 same-length-20 c = c .before .before .before .before .before .before .before .before .before .before .before .before .before .before .before .before .before .before .before .before .before .remove-batch .kept .1 .1 .1 .1 .1 .1 .1 .1 .1 .0
 
 returns-2 : tie.Need-returns-2
-returns-2 c = acted-all _ _ _ _ _ _ 64 (c .before .before .before .before .before .before .before .before .before .before .before .before .before .before .before .before .before .before .before .before .before .before .before .before .before .before .before .before .before .before .before .before .match .keys2) (now (c .before .before .before .before .before .before .before .before .before .before .before .before .before .before .before .before .before .before .before .before .before .before .before .before .before .before .before .before .before .before .before .before .before .before .before .before .before .before .before .before .before .before .before .before .args .items)) (batched _ _ _ _ _ _ (c .counted2 .ensures .1) _ _ (c .counted2 .ensures .0) (c .before .before .before .before .before .before .before .before .before .before .before .before .before .before .before .before .before .before .before .before .before .remove-batch .ensures))
+returns-2 c = acted-all _ _ _ _ _ _ 64 (c .before .before .before .before .before .before .before .before .before .before .before .before .before .before .before .before .before .before .before .before .before .before .before .before .before .before .before .before .before .before .before .before .match .keys2) (now (c .before .before .before .before .before .before .before .before .before .before .before .before .before .before .before .before .before .before .before .before .before .before .before .before .before .before .before .before .before .before .before .before .before .before .before .before .before .before .before .before .before .before .before .before .before .args .items)) (now (c .before .before .before .before .before .before .before .before .before .before .before .before .before .before .before .before .before .before .before .before .before .before .before .before .before .before .before .before .before .before .before .before .before .before .before .before .before .before .before .before .before .before .before .before .before .args .given)) (batched _ _ _ _ _ _ (c .counted2 .ensures .1) _ _ (c .counted2 .ensures .0) (c .before .before .before .before .before .before .before .before .before .before .before .before .before .before .before .before .before .before .before .before .before .remove-batch .ensures))
 
 same-length-21 : tie.Need-same-length-21
 same-length-21 c = refl
@@ -120,10 +120,10 @@ same-length-30 : tie.Need-same-length-30
 same-length-30 c = refl
 
 returns-3 : tie.Need-returns-3
-returns-3 c = acted-all _ _ _ _ _ _ 65 (c .before .before .before .before .before .before .before .before .before .before .before .before .before .before .before .before .before .before .before .before .before .before .before .before .match .keys3) (now (c .before .before .before .before .before .before .before .before .before .before .before .before .before .before .before .before .before .before .before .before .before .before .before .before .before .before .before .before .before .before .before .before .before .before .before .before .args .items)) (batched _ _ _ _ _ _ (c .counted3 .ensures .1) _ _ (c .counted3 .ensures .0) (c .before .before .before .before .before .before .before .before .before .before .before .before .before .touch-batch .ensures))
+returns-3 c = acted-all _ _ _ _ _ _ 65 (c .before .before .before .before .before .before .before .before .before .before .before .before .before .before .before .before .before .before .before .before .before .before .before .before .match .keys3) (now (c .before .before .before .before .before .before .before .before .before .before .before .before .before .before .before .before .before .before .before .before .before .before .before .before .before .before .before .before .before .before .before .before .before .before .before .before .before .args .items)) (now (c .before .before .before .before .before .before .before .before .before .before .before .before .before .before .before .before .before .before .before .before .before .before .before .before .before .before .before .before .before .before .before .before .before .before .before .before .before .args .given)) (batched _ _ _ _ _ _ (c .counted3 .ensures .1) _ _ (c .counted3 .ensures .0) (c .before .before .before .before .before .before .before .before .before .before .before .before .before .touch-batch .ensures))
 
 returns-4 : tie.Need-returns-4
-returns-4 c = acted-none _ _ _ _ _ _ (now (c .before .before .before .before .before .before .before .before .before .before .before .before .args .items)) (c .match .rest .0 .0 .1) (c .match .rest .0 .1) (c .match .rest .1) (refl, refl, refl)
+returns-4 c = acted-none _ _ _ _ _ _ (now (c .before .before .before .before .before .before .before .before .before .before .before .before .before .args .items)) (now (c .before .before .before .before .before .before .before .before .before .before .before .before .before .args .given)) (c .match .rest .0 .0 .1) (c .match .rest .0 .1) (c .match .rest .1) (refl, refl, refl)
 
 pub batch-spec : {M : Type 1} → statement M
 batch-spec =

@@ -11,11 +11,11 @@ use Rattle.drive_loop.proofs.sound.run.Statement.{statement}
 use Rattle.drive_loop.proofs.sound.run.Tie as tie
 
 abbrev Inv-loop : tie.InvT-loop
-Inv-loop k₀ f₀ e₀ p₀ n₀ ar₀ ix₀ bk₀ sp₀ vs₀ items₀ input₀ out₀ after₀ next₀ end₀ more₀ turns₀ k f e p n ar ix bk sp vs items input out after next end more turns =
+Inv-loop k₀ f₀ e₀ p₀ n₀ ar₀ ix₀ bk₀ sp₀ vs₀ source items₀ input₀ out₀ after₀ next₀ end₀ more₀ turns₀ k f e p n ar ix bk sp vs items input out after next end more turns =
     Running (withValues (tables k₀ f₀ e₀ p₀ n₀ ar₀ ix₀ bk₀ sp₀) vs₀) (withValues (tables k f e p n ar ix bk sp) vs) items input next end out
 
 abbrev μ-loop : tie.MeasureT-loop
-μ-loop k₀ f₀ e₀ p₀ n₀ ar₀ ix₀ bk₀ sp₀ vs₀ items₀ input₀ out₀ after₀ next₀ end₀ more₀ turns₀ k f e p n ar ix bk sp vs items input out after next end more turns = turns
+μ-loop k₀ f₀ e₀ p₀ n₀ ar₀ ix₀ bk₀ sp₀ vs₀ source items₀ input₀ out₀ after₀ next₀ end₀ more₀ turns₀ k f e p n ar ix bk sp vs items input out after next end more turns = turns
 
 large-buffer-requires : tie.Need-large-buffer-requires Inv-loop μ-loop
 large-buffer-requires c κs = tt
