@@ -3,6 +3,7 @@ use buckets_tables::State;
 
 pub mod sound;
 
+// What a program reads its records by, beside `sound::number`.
 pub use trace::input::RECORD;
 pub use trace::input::two_bytes;
 

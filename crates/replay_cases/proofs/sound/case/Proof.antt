@@ -1,11 +1,10 @@
 -- What was read fits, and so does what it prints.
-use mathlib.Core.Path.{_≡_, sym}
-use mathlib.Core.List.{_++_}
+use mathlib.Core.Path.{sym}
 use native.Mathlib.Omega.{arith}
 use borrow.Author.Needs.{needs}
-use lib.ListN.{length, take, drop}
-use lib.Seq.{length-take-le, length-front}
+use lib.Seq.{length-take-le}
 use Rattle.lists.proofs.Tests.{neither}
+use Rattle.trace_input.proofs.Sizes.{read-size}
 use Rattle.replay_cases.proofs.sound.case.Statement.{statement}
 use Rattle.replay_cases.proofs.sound.case.Tie as tie
 
@@ -40,25 +39,10 @@ slice-reshare-prefix-whole : tie.Need-slice-reshare-prefix-whole
 slice-reshare-prefix-whole c = search needs
 
 slice-aggregate-whole : tie.Need-slice-aggregate-whole
-slice-aggregate-whole c = 
-    let n = c .before .before .before .before .before .before .before .next-length .result in
-    let input = c .before .before .before .before .before .before .before .before .before .before .args .input .now in
-    let got = c .before .before .before .before .read-full .last .1 .0 in
-    let long = length-front input got n (c .before .before .before .before .read-full .kept .1 .0) in
-    let few = c .before .before .before .before .before .before .before .next-length .ensures in
-    let reads = c .before .before .before .before .before .before .before .before .before .before .pre .reads in
-    sym (length-take-le n (got ++ drop n input) (omega arith))
+slice-aggregate-whole c = sym (read-size (c .before .before .before .before .before .before .before .before .before .before .args .input .now) (c .before .before .before .before .read-full .last .1 .0) (c .before .before .before .before .before .before .before .next-length .result) (omega (arith, c .before .before .before .before .before .before .before .next-length .ensures, c .before .before .before .before .before .before .before .before .before .before .pre .reads)) (c .before .before .before .before .read-full .kept .1 .0))
 
 whole-requires : tie.Need-whole-requires
-whole-requires c κs = 
-    let n = c .before .before .before .before .before .before .before .before .next-length .result in
-    let input = c .before .before .before .before .before .before .before .before .before .before .before .args .input .now in
-    let got = c .before .before .before .before .before .read-full .last .1 .0 in
-    let long = length-front input got n (c .before .before .before .before .before .read-full .kept .1 .0) in
-    let few = c .before .before .before .before .before .before .before .before .next-length .ensures in
-    let reads = c .before .before .before .before .before .before .before .before .before .before .before .pre .reads in
-    let size : length (take n (got ++ drop n input)) ≡ n = length-take-le n (got ++ drop n input) (omega arith) in
-    (omega (arith, c .before .before .before .before .before .before .before .if1 .left), omega (arith, c .before .before .before .before .before .before .before .before .before .before .before .pre .prints))
+whole-requires c κs = let size = read-size (c .before .before .before .before .before .before .before .before .before .before .before .args .input .now) (c .before .before .before .before .before .read-full .last .1 .0) (c .before .before .before .before .before .before .before .before .next-length .result) (omega (arith, c .before .before .before .before .before .before .before .before .next-length .ensures, c .before .before .before .before .before .before .before .before .before .before .before .pre .reads)) (c .before .before .before .before .before .read-full .kept .1 .0) in (omega (arith, c .before .before .before .before .before .before .before .if1 .left, c .before .before .before .before .before .before .before .before .next-length .ensures), omega (arith, c .before .before .before .before .before .before .before .before .next-length .ensures, c .before .before .before .before .before .before .before .before .before .before .before .pre .prints))
 
 slice-reshare-prefix-write-all : tie.Need-slice-reshare-prefix-write-all
 slice-reshare-prefix-write-all c = search needs
