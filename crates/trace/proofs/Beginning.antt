@@ -1,21 +1,17 @@
 -- How an input begins: the code's tests find what its first bytes come to, whatever follows them does not matter to it, and the whole
 -- output goes on from there. A header that begins has all its bytes and a capacity that the tables have places for.
 use mathlib.Core.Path.{_≡_, refl, sym, ap, _∙_}
-use mathlib.Core.List.{List, [], _∷_, _++_, append-nil}
-use Prim.Native.Nat.{ℕ, _+_, _≤_, _<_}
+use mathlib.Core.List.{List, [], _∷_, _++_}
+use Prim.Native.Nat.{ℕ, _≤_, _<_}
 use native.Mathlib.Omega.{arith}
 use borrow.Author.Tests.{lt-ltb, le-ltb}
-use lib.ListN.{length, getD, take, drop, length-append}
+use lib.ListN.{length, getD, drop, length-append}
 use lib.Seq.{take-append-le, drop-at}
 use Rattle.lists.proofs.Tests.{by-lt}
-use Rattle.ledger.specs.Cache.{newCache}
-use Rattle.trace.specs.declared.Word.{Word}
 use Rattle.trace.specs.declared.Word.the-variants as word
 use Rattle.trace.specs.declared.Header.{Header}
 use Rattle.trace.specs.declared.Header.the-variants.{Stops, Begins}
-use Rattle.trace.specs.declared.Line.the-variants.{Plain}
-use Rattle.trace.specs.Lines.{text}
-use Rattle.trace.specs.Output.{little, SLOTS, run, runs, finished, HEADER, capacityOf, headerOf, begun, output}
+use Rattle.trace.specs.Output.{little, SLOTS, HEADER, capacityOf, headerOf, begun, output}
 
 -- The code's tests
 

@@ -1,4 +1,4 @@
--- What the trace program prints for a whole input. The input is read byte by byte; each seventeenth byte after the capacity ends a record,
+-- What the trace program prints for a whole input. The input is read byte by byte; each seventeenth byte after the header ends a record,
 -- whose line is then printed. So an input that is read in parts prints what it prints as a whole (`runs-on` of proofs/Running.antt).
 use mathlib.Core.Bool.{cond}
 use mathlib.Core.List.{List, [], _∷_, _++_}
