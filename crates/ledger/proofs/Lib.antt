@@ -18,4 +18,3 @@ pub mod Counted
 pub mod SecondSentence
 pub mod Refilled
 pub mod Split
-pub mod Cases

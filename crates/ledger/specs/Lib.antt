@@ -8,4 +8,3 @@ pub mod History
 pub mod CacheCalls
 pub mod Refusals
 pub mod Demand3
-pub mod Cases

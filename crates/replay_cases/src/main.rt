@@ -1,9 +1,9 @@
 // Many inputs of the trace program, one after another: each is printed as a whole, with a line `--` behind it. Standard input is a pack of
 // them: for each its length in two bytes, low byte first, and then its bytes. The pack ends where it ends, or at an input that is too long.
 ghost use Prim.Native.Nat.{_≤_};
-ghost use Rattle.trace_input.specs.Parts.{PART as FULL};
-use trace_input::PART;
-use trace_input::two_bytes;
+ghost use Rattle.trace.specs.Ends.{PART as FULL};
+use trace::input::PART;
+use trace::input::two_bytes;
 
 mod sound;
 

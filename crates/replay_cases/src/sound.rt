@@ -6,7 +6,7 @@ ghost use Rattle.replay_cases.specs.Cases.{Told};
 use crate::Case;
 use crate::next_length;
 use crate::rule;
-use trace_input::PART;
+use trace::input::PART;
 
 // No input, or one that is cut.
 fn none() -> Case
@@ -32,7 +32,7 @@ fn case(input: &mut [u8], out: &mut [u8]) -> Case
     if got < n {
         return none();
     }
-    let at = trace_input::sound::whole(&input[..], n, out);
+    let at = trace_input::sound::whole(&input[..n], out);
     let written = io::write_all(1, &out[..at]);
     Case {
         more: rule(written),

@@ -1,6 +1,6 @@
 -- Writing into a buffer: byte by byte, and one piece behind another; the digits that the kit's `decimal` finds are those of the
 -- definition. What was written so far is one list, which only grows at its end.
-use mathlib.Core.Path.{_≡_, refl, ap, _∙_, subst}
+use mathlib.Core.Path.{_≡_, refl, sym, ap, _∙_, subst}
 use mathlib.Core.List.{List, [], _∷_, _++_, append-assoc, append-nil}
 use Prim.Native.Nat.{ℕ, zero, suc, _+_, _*_, _^_, _/_, _≤_, _<_, _-_}
 use native.Mathlib.Nat.{add-zero, add-suc, pow-succ', pow-le-pow-right}
@@ -152,3 +152,9 @@ module _ (l : Line) (a : List ℕ) (i : ℕ) (w : Word) (b : List ℕ) (j : ℕ)
         let rest = spells-then b₁ j₁ (spaced n) b₂ j₂ (FEED ∷ []) d k (1 + DIGITS) 1 second (spelled b₂ j₂ (FEED ∷ []) d k 1 (omega arith) end) in
         let both = spells-then b j (spaced m) b₁ j₁ (spaced n ++ (FEED ∷ [])) d k (1 + DIGITS) (1 + DIGITS + 1) first rest in
         rw e (spells-then a i (letters w) b j (spaced m ++ (spaced n ++ (FEED ∷ []))) d k LETTERS (1 + DIGITS + (1 + DIGITS + 1)) word-is both)
+
+-- What is written leaves no choice
+
+pub writes-agree : (out : List ℕ) (at : ℕ) (bytes out₁ out₂ : List ℕ) (r₁ r₂ : ℕ) → Writes out at bytes out₁ r₁ → Writes out at bytes out₂ r₂ →
+    (r₁ ≡ r₂) × (take r₁ out₁ ≡ take r₂ out₂)
+writes-agree out at bytes out₁ out₂ r₁ r₂ a b = (a .next ∙ sym (b .next), a .written ∙ sym (b .written))

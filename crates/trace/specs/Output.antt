@@ -1,4 +1,4 @@
--- What the trace program prints for a whole input. The input is read byte by byte; each seventeenth byte after the capacity ends a record,
+-- What the trace program prints for a whole input. The input is read byte by byte; each seventeenth byte after the header ends a record,
 -- whose line is then printed. So an input that is read in parts prints what it prints as a whole (`runs-on` of proofs/Running.antt).
 use mathlib.Core.Bool.{cond}
 use mathlib.Core.List.{List, [], _∷_, _++_}
@@ -7,6 +7,8 @@ use lib.Dec.{eqb, ltb}
 use lib.ListN.{length, take, drop, getD}
 use Rattle.ledger.specs.Cache.{Cache, newCache}
 use Rattle.ledger.specs.History.{Len}
+use Rattle.trace.specs.declared.Header.{Header}
+use Rattle.trace.specs.declared.Header.the-variants.{Stops, Begins}
 use Rattle.trace.specs.declared.Word.the-variants as word
 use Rattle.trace.specs.declared.Line.the-variants.{Plain}
 use Rattle.trace.specs.Lines.{text, tells, step}
@@ -67,10 +69,27 @@ lastLine c (b ∷ bs) = text (Plain word.Cut)
 abbrev pub finished : Run → List ℕ
 finished r = r .printed ++ lastLine (r .cache) (r .pending)
 
--- the whole output of an input
+-- How an input begins
+
+-- the bytes before the records
+abbrev pub HEADER : ℕ
+HEADER = 2
+
+-- two bytes of capacity, low byte first
+abbrev pub capacityOf : List ℕ → ℕ
+capacityOf bs = little (take 2 bs)
+
+-- what the first bytes come to: `CUT` where there are too few, `CAPACITY` where the tables have too few places, else the capacity
+unfoldable pub headerOf : List ℕ → Header
+headerOf bs =
+    cond (ltb (length bs) HEADER) (Stops word.Cut)
+    (cond (ltb SLOTS (capacityOf bs)) (Stops word.Capacity)
+    (Begins (capacityOf bs)))
+
+-- the whole output: that word alone, or the lines of the records and the last line
+abbrev pub begun : Header → (records : List ℕ) → List ℕ
+begun (Stops w) bs = text (Plain w)
+begun (Begins capacity) bs = finished (runs (run [] (newCache capacity) []) bs)
+
 unfoldable pub output : List ℕ → List ℕ
-output [] = text (Plain word.Cut)
-output (b ∷ []) = text (Plain word.Cut)
-output (low ∷ (high ∷ bs)) =
-    let capacity = little (low ∷ high ∷ []) in
-    cond (ltb SLOTS capacity) (text (Plain word.Capacity)) (finished (runs (run [] (newCache capacity) []) bs))
+output bs = begun (headerOf bs) (drop HEADER bs)

@@ -4,4 +4,4 @@ pub mod Feeding
 pub mod Parts
 pub mod Sizes
 pub mod Wholes
-pub mod Case12
+pub mod Agreeing

@@ -13,14 +13,17 @@ use Rattle.ledger.specs.Cache.{Cache, newCache, cacheLen}
 use Rattle.ledger.specs.History.{does}
 use Rattle.buckets_tables.specs.declared.State.{State}
 use Rattle.cache_tables.specs.Tables.{CacheTables, CacheHolds}
+use Rattle.trace.specs.declared.Header.the-variants.{Begins}
 use Rattle.trace.specs.declared.Line.{Line}
+use Rattle.trace.specs.Ends.{PART, lastOf}
 use Rattle.trace.specs.Lines.{text, tells, step, LONGEST}
-use Rattle.trace.specs.Output.{little, Run, run, RECORD, SLOTS, codeOf, keyOf, valueOf, ended, reads, runs, lastLine, finished, output}
+use Rattle.trace.specs.Output.{Run, run, RECORD, codeOf, keyOf, valueOf, ended, reads, runs, lastLine, finished, HEADER, headerOf, output}
 use Rattle.trace.specs.Written.{Spells}
+use Rattle.trace.proofs.Beginning.{output-first}
 use Rattle.trace.proofs.Running.{runs-on, record-runs}
 use Rattle.trace_input.specs.declared.Fed.{Fed}
-use Rattle.trace_input.specs.Feeding.{PRINT, partRun, part, Feeds, lastOf}
-use Rattle.trace_input.specs.Parts.{PART, closing, Parts, InParts, printedBy, joined}
+use Rattle.trace_input.specs.Feeding.{PRINT, partRun, part, Feeds}
+use Rattle.trace_input.specs.Parts.{closing, Parts, InParts, printedBy, joined}
 
 -- Bytes after bytes
 
@@ -86,11 +89,10 @@ parts-print c (p ∷ (q ∷ ps)) h =
     rw (le-ltb (length p) PART (omega (arith, h .0)), whole, parts-print after (q ∷ ps) (h .1))
     (sym (append-assoc out (partRun after rest .printed) (lastLine (partRun after rest .cache) (partRun after rest .pending))))
 
--- the two bytes of the capacity, and then parts
-pub output-in-parts : (low high : ℕ) (ps : List (List ℕ)) → InParts ps → little (low ∷ high ∷ []) ≤ SLOTS →
-    output (low ∷ high ∷ joined ps) ≡ printedBy (newCache (little (low ∷ high ∷ []))) ps
-unfolding output
-output-in-parts low high ps h few = rw (le-ltb SLOTS (little (low ∷ high ∷ [])) few) (sym (parts-print (newCache (little (low ∷ high ∷ []))) ps h))
+-- a header that begins, and then parts
+pub output-in-parts : (first : List ℕ) (ps : List (List ℕ)) (capacity : ℕ) → length first ≡ HEADER → headerOf first ≡ Begins capacity → InParts ps →
+    output (first ++ joined ps) ≡ printedBy (newCache capacity) ps
+output-in-parts first ps capacity all begins h = output-first first (joined ps) all (Begins capacity) (sym begins) ∙ sym (parts-print (newCache capacity) ps h)
 
 -- The last line
 

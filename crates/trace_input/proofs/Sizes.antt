@@ -64,3 +64,7 @@ read-fits input got m n wide kept h =
     let whole = length-front input got m kept in
     let part = length-take-le m input wide in
     (omega arith, omega arith)
+
+-- where as many bytes were read as were asked for, so many are lent on
+pub read-size : (input got : List ℕ) (n : ℕ) → n ≤ length input → length got ≡ length (take n input) → length (take n (got ++ drop n input)) ≡ n
+read-size input got n inside kept = let whole = length-front input got n kept in length-take-le n (got ++ drop n input) (omega arith)

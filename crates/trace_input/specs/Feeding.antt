@@ -1,18 +1,13 @@
 -- What carrying out a part of a trace's input does.
 use mathlib.Core.Path.{_≡_}
-use mathlib.Core.Bool.{cond}
 use mathlib.Core.List.{List, []}
 use Prim.Native.Nat.{ℕ, _+_, _*_, _≤_, _<_}
-use lib.Dec.{ltb}
 use lib.ListN.{length, take, drop}
 use Rattle.numbers.specs.Marks.{LIMIT}
 use Rattle.ledger.specs.Cache.{Cache}
 use Rattle.buckets_tables.specs.declared.State.{State}
 use Rattle.buckets_tables.specs.Tables.{Sized}
 use Rattle.cache_tables.specs.Tables.{CacheTables, CacheHolds}
-use Rattle.trace.specs.declared.Word.the-variants as word
-use Rattle.trace.specs.declared.Line.{Line}
-use Rattle.trace.specs.declared.Line.the-variants.{Plain, One}
 use Rattle.trace.specs.Output.{Run, run, RECORD, runs}
 use Rattle.trace_input.specs.declared.Fed.{Fed}
 
@@ -43,10 +38,6 @@ pub record Feeds (t : CacheTables) (s : State) (input : List ℕ) (n : ℕ) (t' 
   pub left : n < r .next + RECORD
   pub room : r .at ≤ n * PRINT
   pub fed : (c : Cache) → CacheHolds t s c → Fed-by c input t' out' r
-
--- the line at the end of the input: `left` bytes of a record that has not ended, and so many bound keys
-abbrev pub lastOf : (left count : ℕ) → Line
-lastOf left count = cond (ltb 0 left) (Plain word.Cut) (One word.End count)
 
 -- the lengths that a capacity calls for
 pub record Sizes (t : CacheTables) (c : ℕ) : Type 0 where

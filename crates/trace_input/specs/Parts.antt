@@ -8,14 +8,11 @@ use lib.ListN.{length, take}
 use Rattle.ledger.specs.Cache.{Cache}
 use Rattle.buckets_tables.specs.declared.State.{State}
 use Rattle.cache_tables.specs.Tables.{CacheTables, CacheHolds}
+use Rattle.trace.specs.Ends.{PART, lastOf}
 use Rattle.trace.specs.Lines.{text, LONGEST}
 use Rattle.trace.specs.Output.{finished}
-use Rattle.trace_input.specs.Feeding.{PRINT, partRun, lastOf}
+use Rattle.trace_input.specs.Feeding.{PRINT, partRun}
 use Rattle.trace_input.specs.declared.Printed.{Printed}
-
--- the bytes of a full part: whole records. A part that is not full is the last
-abbrev pub PART : ℕ
-PART = 21828
 
 -- what a part prints: its records, and the last line where it is the last part
 abbrev pub partOutput : Cache → List ℕ → List ℕ

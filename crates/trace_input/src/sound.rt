@@ -12,12 +12,12 @@ ghost use Rattle.trace.specs.Written.{Spells};
 ghost use Rattle.trace_input.specs.Feeding.{Feeds, PRINT};
 ghost use Rattle.trace_input.specs.Parts.{Parts, closing};
 use crate::Fed;
-use crate::PART;
 use crate::Printed;
-use crate::RECORD;
-use crate::last_line;
 use buckets_tables::State;
 use numbers::Key;
+use trace::input::PART;
+use trace::input::RECORD;
+use trace::input::last_line;
 
 mod inputs;
 
@@ -38,7 +38,7 @@ pub fn number(bytes: &[u8], at: usize) -> u64
 }
 
 // Carries out the whole records among the first bytes of an input. Each record prints at most three bytes for each of its own.
-pub fn feed(
+fn feed(
     keys: &mut [u64],
     freqs: &mut [u64],
     epochs: &mut [u64],

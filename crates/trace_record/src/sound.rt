@@ -23,7 +23,7 @@ use numbers::Key;
 use trace::Line;
 use trace::Word;
 
-pub mod cases;
+mod cases;
 
 // 0 and 9 to 255: no operation. Nothing changes.
 fn bad(ask: Ask) -> Told

@@ -1,17 +1,19 @@
 // A whole input that lies in a buffer, on tables of its own.
 ghost use Prim.Native.Nat.{_+_, _*_, _≤_, _<_};
-ghost use lib.ListN.{length, take};
+ghost use lib.ListN.{length};
 ghost use Rattle.ledger.specs.Cache.{newCache};
 ghost use Rattle.cache_tables.specs.Slices.{lent};
+ghost use Rattle.trace.specs.Ends.{PART};
 ghost use Rattle.trace.specs.Lines.{LONGEST};
 ghost use Rattle.trace.specs.Output.{output, SLOTS};
 ghost use Rattle.trace_input.specs.Feeding.{PRINT, Sizes};
-ghost use Rattle.trace_input.specs.Parts.{PART, partOutput, InputShows};
+ghost use Rattle.trace_input.specs.Parts.{partOutput, InputShows};
 use crate::sound::part;
-use crate::two_bytes;
 use bucket_table::WORDS;
+use trace::Header;
 use trace::Line;
-use trace::Word;
+use trace::input::HEADER;
+use trace::input::header;
 use trace::sound::write;
 
 // Some records on tables of a capacity, which may have held anything.
@@ -99,16 +101,13 @@ fn start(capacity: usize, records: &[u8], out: &mut [u8]) -> usize
 }
 
 // Prints a whole input that is shorter than a full part.
-pub fn whole(input: &[u8], n: usize, out: &mut [u8]) -> usize
-    requires { ⌜ (n < PART) × (n ≤ length (now input)) × (n * PRINT + LONGEST ≤ length (now out)) ⌝ }
-    ensures { λ r. ⌜ InputShows (output (take n (now (input .entry)))) (now (out .exit)) r ⌝ }
+pub fn whole(input: &[u8], out: &mut [u8]) -> usize
+    requires { ⌜ (length (now input) < PART) × (length (now input) * PRINT + LONGEST ≤ length (now out)) ⌝ }
+    ensures { λ r. ⌜ InputShows (output (now (input .entry))) (now (out .exit)) r ⌝ }
 {
-    if n < 2 {
-        return write(out, 0, Line::Plain(Word::Cut));
+    let begun = header(input);
+    match begun {
+        Header::Stops(word) => write(out, 0, Line::Plain(word)),
+        Header::Begins(capacity) => start(capacity, &input[HEADER..], out),
     }
-    let capacity = two_bytes(input[0], input[1]);
-    if capacity > 256 {
-        return write(out, 0, Line::Plain(Word::Capacity));
-    }
-    start(capacity, &input[2..n], out)
 }

@@ -1,7 +1,7 @@
 // The eight operations, each a call of the cache and the line that its answer prints; and the operations that are none.
 ghost use mathlib.Core.Path.{_≡_};
 ghost use lib.ListN.{length};
-ghost use Rattle.ledger.specs.History.{Insert, Remove, Reset, Evict};
+ghost use Rattle.ledger.specs.History.{Insert, Remove, Evict};
 ghost use Rattle.promise.specs.Promise.{Sound};
 ghost use Rattle.key_index.specs.Index.{IndexSound};
 ghost use Rattle.buckets_tables.specs.Slices as nine;
