@@ -10,7 +10,7 @@ use lib.Seq.{drop-cons}
 use Rattle.numbers.specs.Frequency.{CEILING}
 use Rattle.ledger.specs.Ledger.{Ledger}
 use Rattle.ledger.specs.Buckets.{Reply, done, refused, Outcome, wasDone, batch, counted, insert, touchUpTo, touch, remove, insertBatch, touchBatch, removeBatch}
-use Rattle.ledger.specs.Calls.{calls, Insert, Touch, Remove}
+use Rattle.ledger.specs.BucketCalls.{calls, Insert, Touch, Remove}
 use Rattle.ledger.proofs.Kept.{calls-capacity}
 use Rattle.promise.specs.Promise.{Does, Sound}
 use Rattle.buckets_tables.specs.declared.State.{State}

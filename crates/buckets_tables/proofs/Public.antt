@@ -7,7 +7,7 @@ use Rattle.numbers.specs.declared.Answer.{Answer}
 use Rattle.numbers.specs.declared.Answer.the-variants.{Done}
 use Rattle.ledger.specs.Ledger.{Ledger, new}
 use Rattle.ledger.specs.Buckets.{Reply, refused}
-use Rattle.ledger.specs.Calls.{Query, BucketCall, Ask, calls, asks}
+use Rattle.ledger.specs.BucketCalls.{Query, BucketCall, Ask, calls, asks}
 use Rattle.ledger.proofs.Kept.{queries-leave}
 use Rattle.promise.specs.Promise.{Sound, Does, Tells, Makes, Answers, Checks}
 use Rattle.promise.specs.Making.{Made}

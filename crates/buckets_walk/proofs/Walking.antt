@@ -16,7 +16,7 @@ use Rattle.lists.proofs.Tests.{if-lt, if-same, if-other, if-less, if-not-less, 
 use Rattle.lists.proofs.Members.{all-in, all-map, all-right, in-sum, without-times}
 use Rattle.ledger.specs.Ledger.{Ledger, Item, item, items, tag, slotted}
 use Rattle.ledger.specs.Buckets.{done, refused}
-use Rattle.ledger.specs.Calls.{asks, WalkStart, WalkStep}
+use Rattle.ledger.specs.BucketCalls.{asks, WalkStart, WalkStep}
 use Rattle.ledger.specs.Walk.{Step, here, noMore, absent, stepReply, listOf, head, start, step}
 use Rattle.ledger.proofs.Walked.{listOf-frequency, listOf-in, step-at, step-free, step-outside}
 use Rattle.links.specs.Chain.{cells}

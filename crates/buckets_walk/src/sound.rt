@@ -1,6 +1,6 @@
 // The walk over tables that are known to be sound: nothing is checked, and each call is lent only what it reads. The start takes a step
 // for each level below; a step takes a few. A step over the links alone takes any links.
-ghost use Rattle.ledger.specs.Calls.{asks, WalkStart, WalkStep};
+ghost use Rattle.ledger.specs.BucketCalls.{asks, WalkStart, WalkStep};
 ghost use Rattle.answers.specs.Replies.{stepReply};
 ghost use Rattle.buckets_walk.specs.Walks.{Leads, Startable, OfStart, Walkable, OfStep};
 use crate::After;

@@ -3,7 +3,7 @@ use mathlib.Core.Path.{_≡_, refl}
 use mathlib.Core.List.{map}
 use Rattle.ledger.specs.Buckets.{insert, touch, touchUpTo, touchCapped, remove, popMin, currentEpoch, setEpoch, advanceEpoch}
 use Rattle.ledger.specs.Rebuild.{rebuild, decayHalve, rebaseMinFreq}
-use Rattle.ledger.specs.Calls.{asks, calls}
+use Rattle.ledger.specs.BucketCalls.{asks, calls}
 use Rattle.ledger.specs.Cache.{cacheInsert, cacheGet, cachePeekLfu, cacheLen}
 use Rattle.ledger.specs.History.{does}
 use Rattle.trace.specs.Lines.{decimal, tells, step}

@@ -10,7 +10,7 @@ use Rattle.numbers.specs.Frequency.{CEILING}
 use Rattle.numbers.specs.declared.Answer.the-variants.{Present, Full, Empty}
 use Rattle.ledger.specs.Ledger.{Level, Ledger, Item, new, lookup}
 use Rattle.ledger.specs.Buckets.{Reply, done, refused}
-use Rattle.ledger.specs.Calls.{BucketCall, Ask, CurrentEpoch, Insert, Touch, TouchCapped, Remove, PopMin, SetEpoch, AdvanceEpoch, DecayHalve, RebaseMinFreq, calls}
+use Rattle.ledger.specs.BucketCalls.{BucketCall, Ask, CurrentEpoch, Insert, Touch, TouchCapped, Remove, PopMin, SetEpoch, AdvanceEpoch, DecayHalve, RebaseMinFreq, calls}
 use Rattle.trace.specs.Lines.{FEED, decimal}
 use Rattle.trace.specs.Output.{output}
 

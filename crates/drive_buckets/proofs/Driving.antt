@@ -6,14 +6,14 @@ use mathlib.Core.List.{List}
 use Prim.Native.Nat.{ℕ}
 use borrow.Author.Tests.{ne-eqb}
 use Rattle.ledger.specs.Buckets.{Reply}
-use Rattle.ledger.specs.Calls.{BucketCall}
+use Rattle.ledger.specs.BucketCalls.{BucketCall}
 use Rattle.promise.specs.Promise.{Makes}
 use Rattle.buckets_tables.specs.declared.State.{State}
 use Rattle.buckets_tables.specs.Tables.{Tables}
 use Rattle.buckets_tables.specs.Lent.{buckets}
 use Rattle.drive_lines.specs.declared.Told.{Told}
 use Rattle.drive_lines.specs.Lines.{text, replyText}
-use Rattle.drive_buckets.specs.Calls.{queryCall, epochCall, wholeCall, bucketCall, batchCall, DrivesBuckets}
+use Rattle.drive_buckets.specs.Operations.{queryCall, epochCall, wholeCall, bucketCall, batchCall, DrivesBuckets}
 
 module _ (t : Tables) (s : State) (told : Told) (t' : Tables) (s' : State) where
   -- the call that an operation names was made, and its line is told

@@ -6,7 +6,7 @@ use native.Mathlib.Numerals.{add-one}
 use native.Mathlib.Omega.{arith}
 use lib.ListN.{length, take, set, length-set}
 use lib.Seq.{take-suc-set, take-all}
-use Rattle.drive_buckets.specs.Calls.{keysFrom}
+use Rattle.drive_buckets.specs.Operations.{keysFrom}
 
 pub record Filling (first : ℕ) (items₀ items : List ℕ) (key j : ℕ) : Type 0 where
   pub size : length items ≡ length items₀

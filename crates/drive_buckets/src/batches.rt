@@ -2,7 +2,7 @@
 ghost use mathlib.Core.Path.{_≡_};
 ghost use lib.ListN.{length};
 ghost use Rattle.buckets_tables.specs.Slices.{before, after};
-ghost use Rattle.drive_buckets.specs.Calls.{batchCall, keysFrom, DrivesBuckets};
+ghost use Rattle.drive_buckets.specs.Operations.{batchCall, keysFrom, DrivesBuckets};
 use buckets_tables::State;
 use drive_lines::Driven;
 use drive_lines::Told;

@@ -1,7 +1,7 @@
 // The operations that are not about one key: on every key, on epochs, and those that only answer. Each function has those of its kind, and
 // sends the others on. The tables have the names of lib.rt.
 ghost use Rattle.buckets_tables.specs.Slices.{before, after};
-ghost use Rattle.drive_buckets.specs.Calls.{queryCall, epochCall, wholeCall, DrivesBuckets};
+ghost use Rattle.drive_buckets.specs.Operations.{queryCall, epochCall, wholeCall, DrivesBuckets};
 use crate::after::dated;
 use buckets_tables::State;
 use drive_lines::Driven;

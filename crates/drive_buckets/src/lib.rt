@@ -3,7 +3,7 @@
 ghost use Rattle.buckets_tables.specs.Slices.{before, after};
 ghost use Rattle.buckets_tables.specs.Lent.{buckets};
 ghost use Rattle.drive_lines.specs.Driving.{Reports};
-ghost use Rattle.drive_buckets.specs.Calls.{bucketCall, DrivesBuckets};
+ghost use Rattle.drive_buckets.specs.Operations.{bucketCall, DrivesBuckets};
 use buckets_tables::State;
 use cases::whole;
 use drive_lines::Driven;

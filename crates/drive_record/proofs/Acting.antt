@@ -15,8 +15,8 @@ use Rattle.trace.specs.declared.Word.the-variants.{Bad}
 use Rattle.drive_lines.specs.declared.Told.{Told}
 use Rattle.drive_lines.specs.declared.Told.the-variants.{Just}
 use Rattle.drive_lines.specs.Driving.{Reports}
-use Rattle.drive_buckets.specs.Calls as bucket
-use Rattle.drive_buckets.specs.Calls.{bucketCall, keysFrom}
+use Rattle.drive_buckets.specs.Operations as bucket
+use Rattle.drive_buckets.specs.Operations.{bucketCall, keysFrom}
 use Rattle.drive_damage.specs.Damage.{Damages, Alters}
 use Rattle.drive_cache.specs.Operations as cached
 use Rattle.drive_cache.specs.Operations.{cacheCall, DrivesCache}

@@ -5,7 +5,7 @@ use mathlib.Core.Option.{Option, none}
 use Prim.Native.Nat.{ℕ, _+_, _-_}
 use lib.Dec.{eqb, ltb}
 use Rattle.numbers.specs.Marks.{LIMIT}
-use Rattle.ledger.specs.Calls.{BucketCall}
+use Rattle.ledger.specs.BucketCalls.{BucketCall}
 use Rattle.buckets_tables.specs.declared.State.{State}
 use Rattle.buckets_tables.specs.Lent.{buckets}
 use Rattle.cache_tables.specs.Tables.{CacheTables}
@@ -13,8 +13,8 @@ use Rattle.trace.specs.declared.Word.{Word}
 use Rattle.drive_lines.specs.declared.Told.{Told}
 use Rattle.drive_lines.specs.declared.Told.the-variants.{Just}
 use Rattle.drive_lines.specs.Driving.{Reports}
-use Rattle.drive_buckets.specs.Calls as bucket
-use Rattle.drive_buckets.specs.Calls.{bucketCall, keysFrom}
+use Rattle.drive_buckets.specs.Operations as bucket
+use Rattle.drive_buckets.specs.Operations.{bucketCall, keysFrom}
 use Rattle.drive_damage.specs.Damage.{Damages, Alters}
 use Rattle.drive_cache.specs.Operations as cached
 use Rattle.drive_cache.specs.Operations.{CacheOperation, cacheCall, DrivesCache}

@@ -3,7 +3,7 @@ use mathlib.Core.Path.{_≡_, subst}
 use Prim.Native.Nat.{ℕ}
 use Rattle.numbers.specs.Frequency.{capOf}
 use Rattle.ledger.specs.Buckets.{Reply, touchUpTo, touchCapped}
-use Rattle.ledger.specs.Calls.{calls, TouchCapped}
+use Rattle.ledger.specs.BucketCalls.{calls, TouchCapped}
 use Rattle.promise.specs.Promise.{Does}
 use Rattle.buckets_tables.specs.declared.State.{State}
 use Rattle.buckets_tables.specs.Tables.{Tables}

@@ -1,5 +1,5 @@
 // The calls of `FrequencyBuckets` on epochs, on any lent tables: each checks first.
-ghost use Rattle.ledger.specs.Calls as ledger;
+ghost use Rattle.ledger.specs.BucketCalls as ledger;
 ghost use Rattle.promise.specs.Promise.{Makes};
 ghost use Rattle.buckets_tables.specs.Slices.{before, after};
 ghost use Rattle.buckets_tables.specs.Lent as kind;

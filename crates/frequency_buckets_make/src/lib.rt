@@ -1,7 +1,7 @@
 // The calls of `FrequencyBuckets` on whole tables: making them, which takes any contents, clearing them, and giving every key another
 // frequency.
 ghost use Rattle.ledger.specs.Ledger as ledger;
-ghost use Rattle.ledger.specs.Calls as calls;
+ghost use Rattle.ledger.specs.BucketCalls as calls;
 ghost use Rattle.promise.specs.Promise.{Makes};
 ghost use Rattle.promise.specs.Making.{Made};
 ghost use Rattle.buckets_tables.specs.Slices.{before, after};

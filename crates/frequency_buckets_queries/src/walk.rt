@@ -1,5 +1,5 @@
 // The walk of a frequency over any lent tables: each call checks first. Between two calls a walk is only the number of a slot.
-ghost use Rattle.ledger.specs.Calls as ledger;
+ghost use Rattle.ledger.specs.BucketCalls as ledger;
 ghost use Rattle.promise.specs.Promise.{Answers};
 ghost use Rattle.buckets_tables.specs.Slices.{before};
 ghost use Rattle.buckets_tables.specs.Lent as kind;

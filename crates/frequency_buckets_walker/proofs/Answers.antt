@@ -11,7 +11,7 @@ use Rattle.numbers.specs.declared.Answer.the-variants.{Done}
 use Rattle.numbers.specs.declared.Slot.{Slot}
 use Rattle.ledger.specs.Ledger.{Ledger}
 use Rattle.ledger.specs.Buckets.{Reply, done, refused}
-use Rattle.ledger.specs.Calls.{asks, WalkStart}
+use Rattle.ledger.specs.BucketCalls.{asks, WalkStart}
 use Rattle.ledger.specs.Walk as ledger
 use Rattle.promise.specs.Promise.{Promised, Checks}
 use Rattle.promise.proofs.Promises.{promised-done, promised-refused}

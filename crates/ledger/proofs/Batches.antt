@@ -6,8 +6,8 @@ use Prim.Native.Nat.{ℕ, _+_}
 use Rattle.lists.specs.Lists.{sum}
 use Rattle.ledger.specs.Ledger.{Ledger}
 use Rattle.ledger.specs.Buckets.{Outcome, done, wasDone, batch, counted, insert, touch, remove, insertBatch, touchBatch, removeBatch}
-use Rattle.ledger.specs.Calls.{BucketCall, calls, replies, afterCalls}
-use Rattle.ledger.specs.Calls
+use Rattle.ledger.specs.BucketCalls.{BucketCall, calls, replies, afterCalls}
+use Rattle.ledger.specs.BucketCalls
 use Rattle.ledger.specs.Cache.{Cache, CacheFormed, Insertion, fresh, freshOut, old, full, newlyBound, Lookup, hit, miss, wasHit, lookupReply, cacheInsert, cacheGet, cacheRemove, cacheInsertBatch, keyBatch, cacheRemoveBatch, cacheTouchBatch}
 use Rattle.ledger.specs.History.{CacheCall, Insert, Get, Remove, Event, inserted, does, log, afterAll, says, bindings}
 use Rattle.ledger.specs.CacheCalls.{eventReply}
@@ -31,17 +31,17 @@ module _ (call : ℕ → Ledger → Outcome) (C : ℕ → BucketCall) (same : (k
   batch-steps : (ks : List ℕ) (l : Ledger) → counted (batch call ks l) ≡ steps l (map C ks)
   batch-steps ks l = λ i. (done (count-steps ks l i ∷ []), after-steps ks l i)
 
-pub insertBatch-steps : (ks : List ℕ) (l : Ledger) → insertBatch ks l ≡ steps l (map Calls.Insert ks)
+pub insertBatch-steps : (ks : List ℕ) (l : Ledger) → insertBatch ks l ≡ steps l (map BucketCalls.Insert ks)
 unfolding insertBatch calls
-insertBatch-steps ks l = batch-steps insert Calls.Insert (λ k m. refl) ks l
+insertBatch-steps ks l = batch-steps insert BucketCalls.Insert (λ k m. refl) ks l
 
-pub touchBatch-steps : (ks : List ℕ) (l : Ledger) → touchBatch ks l ≡ steps l (map Calls.Touch ks)
+pub touchBatch-steps : (ks : List ℕ) (l : Ledger) → touchBatch ks l ≡ steps l (map BucketCalls.Touch ks)
 unfolding touchBatch calls
-touchBatch-steps ks l = batch-steps touch Calls.Touch (λ k m. refl) ks l
+touchBatch-steps ks l = batch-steps touch BucketCalls.Touch (λ k m. refl) ks l
 
-pub removeBatch-steps : (ks : List ℕ) (l : Ledger) → removeBatch ks l ≡ steps l (map Calls.Remove ks)
+pub removeBatch-steps : (ks : List ℕ) (l : Ledger) → removeBatch ks l ≡ steps l (map BucketCalls.Remove ks)
 unfolding removeBatch calls
-removeBatch-steps ks l = batch-steps remove Calls.Remove (λ k m. refl) ks l
+removeBatch-steps ks l = batch-steps remove BucketCalls.Remove (λ k m. refl) ks l
 
 -- The cache
 

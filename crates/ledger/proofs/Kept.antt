@@ -11,7 +11,7 @@ use Rattle.lists.proofs.Tests.{if-eq}
 use Rattle.ledger.specs.Ledger.{Level, Ledger, Item, new, items, lookup, ifFound, lowest, put, release, move, keyed, WellFormed}
 use Rattle.ledger.specs.Buckets.{Outcome, insertAs, insert, touchUpTo, touch, touchCapped, remove, popMin, peekMin, minFreq, frequency, entryEpoch, redated, setEntryEpoch, currentEpoch, atEpoch, setEpoch, advanceEpoch, len, isEmpty, contains, clear, batch, insertBatch, touchBatch, removeBatch}
 use Rattle.ledger.specs.Rebuild.{rebuild, byLowest, decayHalve, rebaseMinFreq}
-use Rattle.ledger.specs.Calls.{Query, PeekMin, MinFreq, Frequency, EntryEpoch, CurrentEpoch, Len, IsEmpty, Contains, WalkStart, WalkStep, BucketCall, Ask, Insert, Touch, TouchCapped, Remove, PopMin, SetEntryEpoch, SetEpoch, AdvanceEpoch, DecayHalve, RebaseMinFreq, Clear, InsertBatch, TouchBatch, RemoveBatch, asks, calls}
+use Rattle.ledger.specs.BucketCalls.{Query, PeekMin, MinFreq, Frequency, EntryEpoch, CurrentEpoch, Len, IsEmpty, Contains, WalkStart, WalkStep, BucketCall, Ask, Insert, Touch, TouchCapped, Remove, PopMin, SetEntryEpoch, SetEpoch, AdvanceEpoch, DecayHalve, RebaseMinFreq, Clear, InsertBatch, TouchBatch, RemoveBatch, asks, calls}
 use Rattle.ledger.proofs.Items.{found-in, found-none}
 use Rattle.ledger.proofs.Rising.{lowest-in}
 use Rattle.ledger.proofs.Changes.{new-formed, put-formed, release-formed, move-formed, raised-fits, epoch-formed, redated-formed}

@@ -13,7 +13,7 @@ use Rattle.ledger.specs.Ledger.{Ledger, Item, items, lookup, ifFound, si
 use Rattle.ledger.specs.Buckets.{Outcome, done, refused, insertAs, insert, touchUpTo, touch, touchCapped, remove, popMin, peekMin, minFreq, frequency, entryEpoch, setEntryEpoch, currentEpoch, setEpoch, advanceEpoch, len, isEmpty, contains, clear, insertBatch, touchBatch, removeBatch}
 use Rattle.ledger.specs.Rebuild.{decayHalve, rebaseMinFreq}
 use Rattle.ledger.specs.Walk.{Step, here, noMore, absent, stepReply, start, step}
-use Rattle.ledger.specs.Calls.{Query, PeekMin, MinFreq, Frequency, EntryEpoch, CurrentEpoch, Len, IsEmpty, Contains, WalkStart, WalkStep, BucketCall, Ask, Insert, Touch, TouchCapped, Remove, PopMin, SetEntryEpoch, SetEpoch, AdvanceEpoch, DecayHalve, RebaseMinFreq, Clear, InsertBatch, TouchBatch, RemoveBatch, asks, calls}
+use Rattle.ledger.specs.BucketCalls.{Query, PeekMin, MinFreq, Frequency, EntryEpoch, CurrentEpoch, Len, IsEmpty, Contains, WalkStart, WalkStep, BucketCall, Ask, Insert, Touch, TouchCapped, Remove, PopMin, SetEntryEpoch, SetEpoch, AdvanceEpoch, DecayHalve, RebaseMinFreq, Clear, InsertBatch, TouchBatch, RemoveBatch, asks, calls}
 use Rattle.ledger.specs.Refusals.{Bound, Unbound, Refused, touches, touchesCapped, removes, asksFrequency, asksEpoch, setsEpoch, steps, inserts, insertsInto, pops, peeks, asksLowest}
 use Rattle.ledger.proofs.Items.{found-in, found-none, none-found, in-keyed}
 use Rattle.ledger.proofs.Rising.{lowest-none, lowest-some}

@@ -2,7 +2,7 @@ pub mod Ledger
 pub mod Buckets
 pub mod Rebuild
 pub mod Walk
-pub mod Calls
+pub mod BucketCalls
 pub mod Cache
 pub mod History
 pub mod CacheCalls

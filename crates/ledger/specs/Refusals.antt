@@ -5,7 +5,7 @@ use Prim.Native.Nat.{ℕ, _≤_}
 use Rattle.numbers.specs.declared.Answer.{Answer}
 use Rattle.numbers.specs.declared.Answer.the-variants.{Absent, Present, Full, Empty}
 use Rattle.ledger.specs.Ledger.{Ledger, items, size, keyed, slotted}
-use Rattle.ledger.specs.Calls.{PeekMin, MinFreq, Frequency, EntryEpoch, WalkStep, BucketCall, Ask, Insert, Touch, TouchCapped, Remove, PopMin, SetEntryEpoch}
+use Rattle.ledger.specs.BucketCalls.{PeekMin, MinFreq, Frequency, EntryEpoch, WalkStep, BucketCall, Ask, Insert, Touch, TouchCapped, Remove, PopMin, SetEntryEpoch}
 use Rattle.ledger.specs.Cache.{Cache}
 use Rattle.ledger.specs.History.{CacheCall}
 use Rattle.ledger.specs.History

@@ -3,7 +3,7 @@ use mathlib.Core.Path.{refl}
 use Prim.Native.Nat.{ℕ}
 use borrow.Author.Needs.{needs}
 use Rattle.answers.specs.Replies.{levelReply, leastReply, plainReply}
-use Rattle.drive_buckets.specs.Calls.{bucketCall}
+use Rattle.drive_buckets.specs.Operations.{bucketCall}
 use Rattle.drive_buckets.proofs.Driving.{made, sent, no-key}
 use Rattle.drive_buckets.proofs.act.Statement.{statement}
 use Rattle.drive_buckets.proofs.act.Tie as tie

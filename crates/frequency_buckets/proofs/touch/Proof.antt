@@ -1,7 +1,7 @@
 -- Checked, then done on sound tables; or refused by the check, with nothing changed.
 use mathlib.Core.Path.{refl}
 use borrow.Author.Needs.{needs}
-use Rattle.ledger.specs.Calls.{calls, Touch}
+use Rattle.ledger.specs.BucketCalls.{calls, Touch}
 use Rattle.ledger.specs.Buckets.{touch}
 use Rattle.buckets_tables.proofs.Public as public
 use Rattle.frequency_buckets.proofs.touch.Statement.{statement}

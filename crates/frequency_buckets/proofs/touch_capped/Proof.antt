@@ -1,7 +1,7 @@
 -- Checked, then done on sound tables; or refused by the check, with nothing changed.
 use mathlib.Core.Path.{refl}
 use borrow.Author.Needs.{needs}
-use Rattle.ledger.specs.Calls.{TouchCapped}
+use Rattle.ledger.specs.BucketCalls.{TouchCapped}
 use Rattle.buckets_tables.proofs.Public as public
 use Rattle.frequency_buckets.proofs.Capped.{capped}
 use Rattle.frequency_buckets.proofs.touch_capped.Statement.{statement}

@@ -1,7 +1,7 @@
 -- Checked, then done on sound tables; or refused by the check, with nothing changed.
 use mathlib.Core.Path.{refl}
 use borrow.Author.Needs.{needs}
-use Rattle.ledger.specs.Calls.{calls, AdvanceEpoch}
+use Rattle.ledger.specs.BucketCalls.{calls, AdvanceEpoch}
 use Rattle.buckets_tables.proofs.Public as public
 use Rattle.frequency_buckets_epochs.proofs.advance_epoch.Statement.{statement}
 use Rattle.frequency_buckets_epochs.proofs.advance_epoch.Tie as tie

@@ -1,6 +1,6 @@
 -- Checked, then done on sound tables; or refused by the check, with nothing changed.
 use borrow.Author.Needs.{needs}
-use Rattle.ledger.specs.Calls.{calls, SetEntryEpoch}
+use Rattle.ledger.specs.BucketCalls.{calls, SetEntryEpoch}
 use Rattle.buckets_tables.proofs.Public as public
 use Rattle.buckets_reads.proofs.Asking as asking
 use Rattle.buckets_calls.proofs.Plain.{plain-refused}

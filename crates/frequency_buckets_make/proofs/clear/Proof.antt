@@ -1,7 +1,7 @@
 -- Checked, then done on sound tables; or refused by the check, with nothing changed.
 use mathlib.Core.Path.{refl}
 use borrow.Author.Needs.{needs}
-use Rattle.ledger.specs.Calls.{calls, Clear}
+use Rattle.ledger.specs.BucketCalls.{calls, Clear}
 use Rattle.buckets_tables.proofs.Public as public
 use Rattle.buckets_calls.proofs.Plain.{plain-refused}
 use Rattle.buckets_rebuild.proofs.Renewed.{sound-fitting, clear-does}

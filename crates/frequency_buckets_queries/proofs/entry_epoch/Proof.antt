@@ -1,7 +1,7 @@
 -- Checked, then told by the entry.
 use mathlib.Core.Path.{refl}
 use borrow.Author.Needs.{needs}
-use Rattle.ledger.specs.Calls.{asks, EntryEpoch}
+use Rattle.ledger.specs.BucketCalls.{asks, EntryEpoch}
 use Rattle.buckets_tables.proofs.Public as public
 use Rattle.buckets_reads.proofs.Asking as asking
 use Rattle.frequency_buckets_queries.proofs.entry_epoch.Statement.{statement}

@@ -1,7 +1,7 @@
 -- Checked, then told by the entry.
 use mathlib.Core.Path.{refl}
 use borrow.Author.Needs.{needs}
-use Rattle.ledger.specs.Calls.{asks, Frequency}
+use Rattle.ledger.specs.BucketCalls.{asks, Frequency}
 use Rattle.buckets_tables.proofs.Public as public
 use Rattle.buckets_reads.proofs.Asking as asking
 use Rattle.frequency_buckets_queries.proofs.frequency.Statement.{statement}

@@ -1,7 +1,7 @@
 -- Checked, then told by the state.
 use mathlib.Core.Path.{refl}
 use borrow.Author.Needs.{needs}
-use Rattle.ledger.specs.Calls.{asks, IsEmpty}
+use Rattle.ledger.specs.BucketCalls.{asks, IsEmpty}
 use Rattle.buckets_tables.proofs.Public as public
 use Rattle.frequency_buckets_queries.proofs.is_empty.Statement.{statement}
 use Rattle.frequency_buckets_queries.proofs.is_empty.Tie as tie

@@ -1,7 +1,7 @@
 -- Checked, then told by the state.
 use mathlib.Core.Path.{refl}
 use borrow.Author.Needs.{needs}
-use Rattle.ledger.specs.Calls.{asks, MinFreq}
+use Rattle.ledger.specs.BucketCalls.{asks, MinFreq}
 use Rattle.buckets_tables.proofs.Public as public
 use Rattle.frequency_buckets_queries.proofs.min_freq.Statement.{statement}
 use Rattle.frequency_buckets_queries.proofs.min_freq.Tie as tie

@@ -1,7 +1,7 @@
 -- Checked, then told by the lowest list.
 use mathlib.Core.Path.{refl}
 use borrow.Author.Needs.{needs}
-use Rattle.ledger.specs.Calls.{asks, PeekMin}
+use Rattle.ledger.specs.BucketCalls.{asks, PeekMin}
 use Rattle.buckets_tables.proofs.Public as public
 use Rattle.frequency_buckets_queries.proofs.peek_min.Statement.{statement}
 use Rattle.frequency_buckets_queries.proofs.peek_min.Tie as tie

@@ -4,7 +4,7 @@ use Prim.Native.Nat.{ℕ}
 use denote.Ref.{now}
 use borrow.Author.Needs.{needs}
 use Rattle.answers.specs.Replies.{countReply}
-use Rattle.drive_buckets.specs.Calls.{batchCall}
+use Rattle.drive_buckets.specs.Operations.{batchCall}
 use Rattle.drive_buckets.proofs.Driving.{made, sent, no-batch}
 use Rattle.drive_buckets.proofs.batches.batch.Statement.{statement}
 use Rattle.drive_buckets.proofs.batches.batch.Tie as tie

@@ -3,7 +3,7 @@ use mathlib.Core.Path.{refl}
 use Prim.Native.Nat.{ℕ}
 use borrow.Author.Needs.{needs}
 use Rattle.answers.specs.Replies.{levelReply, leastReply, epochReply, countReply, askedReply}
-use Rattle.drive_buckets.specs.Calls.{queryCall}
+use Rattle.drive_buckets.specs.Operations.{queryCall}
 use Rattle.drive_buckets.proofs.Driving.{made, sent, no-query}
 use Rattle.drive_buckets.proofs.cases.asks.Statement.{statement}
 use Rattle.drive_buckets.proofs.cases.asks.Tie as tie

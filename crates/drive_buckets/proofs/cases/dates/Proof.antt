@@ -4,7 +4,7 @@ use Prim.Native.Nat.{ℕ}
 use borrow.Author.Needs.{needs}
 use Rattle.answers.specs.Replies.{epochReply, plainReply}
 use Rattle.drive_lines.specs.Lines.{text}
-use Rattle.drive_buckets.specs.Calls.{epochCall}
+use Rattle.drive_buckets.specs.Operations.{epochCall}
 use Rattle.drive_buckets.proofs.Driving.{made, sent, no-epoch}
 use Rattle.drive_buckets.proofs.cases.dates.Statement.{statement}
 use Rattle.drive_buckets.proofs.cases.dates.Tie as tie

@@ -3,7 +3,7 @@ use mathlib.Core.Path.{refl}
 use Prim.Native.Nat.{ℕ}
 use borrow.Author.Needs.{needs}
 use Rattle.answers.specs.Replies.{plainReply}
-use Rattle.drive_buckets.specs.Calls.{wholeCall}
+use Rattle.drive_buckets.specs.Operations.{wholeCall}
 use Rattle.drive_buckets.proofs.Driving.{made, sent, not-whole}
 use Rattle.drive_buckets.proofs.cases.whole.Statement.{statement}
 use Rattle.drive_buckets.proofs.cases.whole.Tie as tie

@@ -1,7 +1,7 @@
 -- Checked, then told by the bucket records.
 use mathlib.Core.Path.{refl}
 use borrow.Author.Needs.{needs}
-use Rattle.ledger.specs.Calls.{asks, WalkStart}
+use Rattle.ledger.specs.BucketCalls.{asks, WalkStart}
 use Rattle.buckets_tables.proofs.Public as public
 use Rattle.frequency_buckets_queries.proofs.walk.start.Statement.{statement}
 use Rattle.frequency_buckets_queries.proofs.walk.start.Tie as tie

@@ -1,7 +1,7 @@
 -- Checked, then told by the links.
 use mathlib.Core.Path.{refl}
 use borrow.Author.Needs.{needs}
-use Rattle.ledger.specs.Calls.{asks, WalkStep}
+use Rattle.ledger.specs.BucketCalls.{asks, WalkStep}
 use Rattle.buckets_tables.proofs.Public as public
 use Rattle.frequency_buckets_queries.proofs.walk.step.Statement.{statement}
 use Rattle.frequency_buckets_queries.proofs.walk.step.Tie as tie
