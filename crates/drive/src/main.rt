@@ -6,7 +6,7 @@ ghost use Rattle.drive.specs.Ends.{headerOf, lastTold};
 use buckets_tables::State;
 use drive_lines::Told;
 use trace::Word;
-use trace_input::two_bytes;
+use trace::input::two_bytes;
 
 mod sound;
 

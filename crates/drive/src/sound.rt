@@ -16,7 +16,7 @@ use bucket_table::WORDS;
 use buckets_tables::State;
 use drive_lines::Told;
 use drive_record::sound::step;
-use trace_input::RECORD;
+use trace::input::RECORD;
 use trace_input::sound::number;
 
 // The output buffer.

@@ -3,10 +3,6 @@ use buckets_tables::State;
 
 pub mod sound;
 
-// What a program reads its records by, beside `sound::number`.
-pub use trace::input::RECORD;
-pub use trace::input::two_bytes;
-
 // Where the printed bytes end, where the next record begins, and the state after the records so far.
 pub struct Fed {
     pub at: usize,
