@@ -9,7 +9,7 @@ use lib.ListN.{length, getD, drop, drop-of-length-le}
 use lib.Seq.{drop-cons}
 use Rattle.numbers.specs.Frequency.{CEILING}
 use Rattle.ledger.specs.Ledger.{Ledger}
-use Rattle.ledger.specs.Buckets.{Reply, done, refused, Outcome, wasDone, batch, counted, insert, touchUpTo, touch, remove, insertBatch, touchBatch, removeBatch}
+use Rattle.ledger.specs.Buckets.{Reply, done, refused, Outcome, wasDone, batch, counted, insert, touch, remove, insertBatch, touchBatch, removeBatch}
 use Rattle.ledger.specs.BucketCalls.{calls, Insert, Touch, Remove}
 use Rattle.ledger.proofs.Kept.{calls-capacity}
 use Rattle.promise.specs.Promise.{Does, Sound}
@@ -95,9 +95,9 @@ pub insert-keeps : (k : ℕ) (l : Ledger) → insert k l .1 .capacity ≡ l .cap
 unfolding calls
 insert-keeps k l = calls-capacity (Insert k) tt l
 
-pub touch-keeps : (k : ℕ) (l : Ledger) → touch k l .1 .capacity ≡ l .capacity
+pub touch-keeps : (k : ℕ) (l : Ledger) → touch CEILING k l .1 .capacity ≡ l .capacity
 unfolding calls
-touch-keeps k l = calls-capacity (Touch k) tt l
+touch-keeps k l = calls-capacity (Touch CEILING k) (omega arith) l
 
 pub remove-keeps : (k : ℕ) (l : Ledger) → remove k l .1 .capacity ≡ l .capacity
 unfolding calls
@@ -107,7 +107,7 @@ abbrev pub inserts : Single
 inserts = record { call = insert; keeps = insert-keeps }
 
 abbrev pub touches : Single
-touches = record { call = touch; keeps = touch-keeps }
+touches = record { call = touch CEILING; keeps = touch-keeps }
 
 abbrev pub removes : Single
 removes = record { call = remove; keeps = remove-keeps }
@@ -124,8 +124,3 @@ module _ (ks : List ℕ) (t : Tables) (s : State) (i n : ℕ) (t' : Tables) (s' 
   pub removes-end : Batching removes ks t s i n t' s' → Does buckets (removeBatch ks) t s (done (n ∷ [])) t' s'
   unfolding removeBatch
   removes-end b = batching-end removes ks t s i n t' s' b all
-
--- a touch is one up to the ceiling
-pub touch-up : (k : ℕ) (t : Tables) (s : State) (r : Reply) (t' : Tables) (s' : State) → Does buckets (touchUpTo CEILING k) t s r t' s' → Does buckets (touch k) t s r t' s'
-unfolding touch
-touch-up k t s r t' s' does = does

@@ -3,7 +3,7 @@ use mathlib.Core.List.{List}
 use Prim.Native.Nat.{ℕ}
 use denote.Ref.{now}
 use Rattle.lists.specs.Slices.{Passed, Slice}
-use Rattle.ledger.specs.Buckets.{touchUpTo}
+use Rattle.ledger.specs.Buckets.{touch}
 use Rattle.promise.specs.Promise.{Does, Sound}
 use Rattle.buckets_tables.specs.declared.State.{State}
 use Rattle.buckets_tables.specs.Tables.{Tables, tables}
@@ -25,7 +25,7 @@ after a k f e p n i b sp = with a (k .exit) (f .exit) (e .exit) (p .exit) (n .ex
 abbrev pub Touchable : (keys freqs epochs prevs nexts index buckets spares : Passed) → State → Type 0
 Touchable k f e p n i b sp s = (a : List ℕ) × Sound buckets (with a k f e p n i b sp) s
 
--- a touch up to a cap, whatever the arena
+-- a touch, whatever the arena
 abbrev pub Touches : (cap key : ℕ) → (keys freqs epochs prevs nexts index buckets spares : Slice) → State → Leveled → Type 0
 Touches cap key k f e p n i b sp s r =
-    (a : List ℕ) → Does buckets (touchUpTo cap key) (before a k f e p n i b sp) s (levelReply (r .answer)) (after a k f e p n i b sp) (r .state)
+    (a : List ℕ) → Does buckets (touch cap key) (before a k f e p n i b sp) s (levelReply (r .answer)) (after a k f e p n i b sp) (r .state)

@@ -70,7 +70,7 @@ pub fn insert(
     }
 }
 
-// Hits a bound key, up to a cap.
+// Hits a bound key, up to a cap; a cap of 0 is read as 1.
 pub fn touch(
     keys: &[u64],
     freqs: &mut [u64],
@@ -98,7 +98,7 @@ pub fn touch(
                 spares,
                 state,
                 slot,
-                cap,
+                cap.as_cap(),
             );
             let frequency = hit.frequency;
             let after = hit.state;

@@ -7,7 +7,7 @@ use mathlib.Core.List.{List, [], _∷_}
 use Prim.Native.Nat.{ℕ, _≤_}
 use native.Mathlib.Omega.{arith}
 use Rattle.numbers.specs.Marks.{NONE}
-use Rattle.numbers.specs.Frequency.{CEILING}
+use Rattle.numbers.specs.Frequency.{CEILING, capOf}
 use Rattle.numbers.specs.declared.Answer.{Answer}
 use Rattle.numbers.specs.declared.Answer.the-variants.{Absent, Present, Full, Empty}
 use Rattle.numbers.specs.declared.Slot.{Slot}
@@ -15,7 +15,7 @@ use Rattle.lists.specs.Lists.{All, Without, one, times}
 use Rattle.lists.proofs.Tests.{one-same}
 use Rattle.lists.proofs.Members.{all-both, in-sum, times-without}
 use Rattle.ledger.specs.Ledger.{Ledger, Item, items, lookup, putAt, release}
-use Rattle.ledger.specs.Buckets.{done, refused, Outcome, insert, touchUpTo, remove, popMin}
+use Rattle.ledger.specs.Buckets.{done, refused, Outcome, insert, touch, remove, popMin}
 use Rattle.ledger.proofs.Slots.{bound-slot, free-slot}
 use Rattle.ledger.proofs.Refusals.{done-refused}
 use Rattle.promise.specs.Promise.{Does, Sound}
@@ -118,18 +118,20 @@ found-bound t s key x w f = record { ledger = w .0; carries = w .1 .carries; bou
 
 -- `touch`, up to a cap
 
-pub touch-absent : (t : Tables) (s : State) (cap key : ℕ) → index.Finds (t .index) (t .keys) key Nothing → Does buckets (touchUpTo cap key) t s (refused Absent) t s
-unfolding touchUpTo
-touch-absent t s cap key f = does-refuse (touchUpTo cap key) t s Absent (λ l h. rw (found-nothing t s l (h .carries) key f))
+pub touch-absent : (t : Tables) (s : State) (cap key : ℕ) → index.Finds (t .index) (t .keys) key Nothing → Does buckets (touch cap key) t s (refused Absent) t s
+unfolding touch
+touch-absent t s cap key f = does-refuse (touch cap key) t s Absent (λ l h. rw (found-nothing t s l (h .carries) key f))
 
-pub touch-done : (k f e p n a i b sp : List ℕ) (s : State) (cap key : ℕ) (x : Slot) → cap ≤ CEILING → index.Finds i k key (At x) →
-    (f' e' p' n' b' sp' : List ℕ) (r : Hit) → Hits f e p n b sp s (x .0) cap f' e' p' n' b' sp' r →
-    Does buckets (touchUpTo cap key) (tables k f e p n a i b sp) s (done (r .frequency .0 ∷ [])) (tables k f' e' p' n' a i b' sp') (r .state)
-unfolding touchUpTo
-touch-done k f e p n a i b sp s cap key x fits at-x f' e' p' n' b' sp' r hits =
+pub touch-done : (k f e p n a i b sp : List ℕ) (s : State) (cap top key : ℕ) (x : Slot) → top ≡ capOf cap → top ≤ CEILING → index.Finds i k key (At x) →
+    (f' e' p' n' b' sp' : List ℕ) (r : Hit) → Hits f e p n b sp s (x .0) top f' e' p' n' b' sp' r →
+    Does buckets (touch cap key) (tables k f e p n a i b sp) s (done (r .frequency .0 ∷ [])) (tables k f' e' p' n' a i b' sp') (r .state)
+unfolding touch
+touch-done k f e p n a i b sp s cap top key x is-cap low at-x f' e' p' n' b' sp' r hit =
+    let hits = subst (λ (c : ℕ). Hits f e p n b sp s (x .0) c f' e' p' n' b' sp' r) is-cap hit in
+    let fits : capOf cap ≤ CEILING = omega arith in
     let t = tables k f e p n a i b sp in
     let t' = tables k f' e' p' n' a i b' sp' in
-    does-done (touchUpTo cap key) t s (r .frequency .0 ∷ []) t' (r .state)
+    does-done (touch cap key) t s (r .frequency .0 ∷ []) t' (r .state)
     (λ l h.
     let w = found-at t s l (h .carries) key x at-x in
     rw (w .found) (ap (λ (m : ℕ). done (m ∷ [])) (hits .answer k a i l (w .item-is) (h .carries) (w .there-is .inside) (w .there-is .slot))))

@@ -9,3 +9,4 @@ pub mod Redated
 pub mod Determined
 pub mod Clearing
 pub mod Public
+pub mod OldPromises

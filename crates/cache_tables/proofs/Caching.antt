@@ -13,7 +13,7 @@ use Rattle.numbers.specs.declared.Answer.the-variants.{Absent, Empty}
 use Rattle.numbers.specs.declared.Slot.{Slot}
 use Rattle.lists.specs.Lists.{In}
 use Rattle.ledger.specs.Ledger.{Ledger, Item, items, lookup, lowest, put, release, WellFormed}
-use Rattle.ledger.specs.Buckets.{done, refused, touchUpTo}
+use Rattle.ledger.specs.Buckets.{done, refused, touch}
 use Rattle.ledger.specs.Cache.{cacheGet, cachePeek, cacheRemove, cacheReset, cachePeekLfu, cacheEvict}
 use Rattle.ledger.specs.History.{Get, Peek, Remove, Reset, PeekLfu, Evict, does}
 use Rattle.ledger.specs.CacheCalls.{cacheCalls}
@@ -77,9 +77,9 @@ module _ (t : Tables) (vs : List ℕ) (s : State) where
         cache-tell (Peek key) (withValues t vs) s (done (getD vs x 0 ∷ []))
         (λ c h. let w = sought (c .table) (h .table) in rw (w .1) (ap (λ (n : ℕ). done (n ∷ [])) (value-at vs x c (w .0) (h .values) (w .2 .slot))))
 
-    pub get-hit : (f : List ℕ) (t' : Tables) (s' : State) → Does buckets (touchUpTo CEILING key) t s (done f) t' s' →
+    pub get-hit : (f : List ℕ) (t' : Tables) (s' : State) → Does buckets (touch CEILING key) t s (done f) t' s' →
         Does cache (cacheCalls (Get key)) (withValues t vs) s (done (getD vs x 0 ∷ [])) (withValues t' vs) s'
-    unfolding does cacheGet touchUpTo
+    unfolding does cacheGet touch
     get-hit f t' s' hits =
         cache-done (Get key) t vs s (getD vs x 0 ∷ []) t' vs s'
         (λ c h.

@@ -10,7 +10,7 @@ use Rattle.numbers.specs.Frequency.{CEILING}
 use Rattle.numbers.specs.declared.Answer.the-variants.{Present, Full, Empty}
 use Rattle.ledger.specs.Ledger.{Level, Ledger, Item, new, lookup}
 use Rattle.ledger.specs.Buckets.{Reply, done, refused}
-use Rattle.ledger.specs.BucketCalls.{BucketCall, Ask, CurrentEpoch, Insert, Touch, TouchCapped, Remove, PopMin, SetEpoch, AdvanceEpoch, DecayHalve, RebaseMinFreq, calls}
+use Rattle.ledger.specs.BucketCalls.{BucketCall, Ask, CurrentEpoch, Insert, Touch, Remove, PopMin, SetEpoch, AdvanceEpoch, DecayHalve, RebaseMinFreq, calls}
 use Rattle.trace.specs.Lines.{FEED, decimal}
 use Rattle.trace.specs.Output.{output}
 
@@ -128,25 +128,25 @@ c3 = buckets (new 4) (Insert 1 gives ok ∷ Insert 2 gives ok ∷ Insert 3 gives
 abbrev c4 : Case
 c4 =
     buckets (new 4)
-    (Insert 1 gives ok ∷ Insert 2 gives ok ∷ Insert 3 gives ok ∷ Touch 1 gives number 2 ∷ shows "1:[3,2] 2:[1]" ∷ PopMin gives key-at 2 1 ∷ [])
+    (Insert 1 gives ok ∷ Insert 2 gives ok ∷ Insert 3 gives ok ∷ Touch CEILING 1 gives number 2 ∷ shows "1:[3,2] 2:[1]" ∷ PopMin gives key-at 2 1 ∷ [])
 
 -- insert 5, touch it twice, rebase: 1:[5]
 abbrev c5 : Case
-c5 = buckets (new 4) (Insert 5 gives ok ∷ Touch 5 gives number 2 ∷ Touch 5 gives number 3 ∷ RebaseMinFreq gives ok ∷ shows "1:[5]" ∷ [])
+c5 = buckets (new 4) (Insert 5 gives ok ∷ Touch CEILING 5 gives number 2 ∷ Touch CEILING 5 gives number 3 ∷ RebaseMinFreq gives ok ∷ shows "1:[5]" ∷ [])
 
 -- insert 1, 2, touch 1 with cap 0: answer 1, 1:[1,2]
 abbrev c6 : Case
-c6 = buckets (new 4) (Insert 1 gives ok ∷ Insert 2 gives ok ∷ TouchCapped 0 1 gives number 1 ∷ shows "1:[1,2]" ∷ [])
+c6 = buckets (new 4) (Insert 1 gives ok ∷ Insert 2 gives ok ∷ Touch 0 1 gives number 1 ∷ shows "1:[1,2]" ∷ [])
 
 -- a key at 3, cap 2: answer 3
 abbrev c7 : Case
-c7 = buckets (new 4) (Insert 5 gives ok ∷ Touch 5 gives number 2 ∷ Touch 5 gives number 3 ∷ TouchCapped 2 5 gives number 3 ∷ [])
+c7 = buckets (new 4) (Insert 5 gives ok ∷ Touch CEILING 5 gives number 2 ∷ Touch CEILING 5 gives number 3 ∷ Touch 2 5 gives number 3 ∷ [])
 
 -- insert 1, 2, 3, touch 1 twice and 2 once, halve: 1:[3,2,1]
 abbrev c8 : Case
 c8 =
     buckets (new 4)
-    (Insert 1 gives ok ∷ Insert 2 gives ok ∷ Insert 3 gives ok ∷ Touch 1 gives number 2 ∷ Touch 1 gives number 3 ∷ Touch 2 gives number 2
+    (Insert 1 gives ok ∷ Insert 2 gives ok ∷ Insert 3 gives ok ∷ Touch CEILING 1 gives number 2 ∷ Touch CEILING 1 gives number 3 ∷ Touch CEILING 2 gives number 2
     ∷ DecayHalve gives ok ∷ shows "1:[3,2,1]" ∷ [])
 
 -- capacity 2, insert 1, 2, 3: FULL; remove 1, insert 3: slot 0
@@ -163,7 +163,7 @@ c10 = buckets (new 4) (SetEpoch CEILING gives ok ∷ AdvanceEpoch gives number 0
 abbrev c11 : Case
 c11 =
     buckets atTheCeiling
-    (shows "18446744073709551615:[9,4]" ∷ Touch 4 gives number CEILING ∷ shows "18446744073709551615:[4,9]" ∷ [])
+    (shows "18446744073709551615:[9,4]" ∷ Touch CEILING 4 gives number CEILING ∷ shows "18446744073709551615:[4,9]" ∷ [])
 
 -- the cache at capacity 2 with insert 10/100, insert 20/200, get 10, insert 30/300, get 20, insert 10/111, peek_lfu, get 30, insert 40/400,
 -- end; the program's whole output

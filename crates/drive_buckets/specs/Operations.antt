@@ -5,8 +5,9 @@ use mathlib.Core.Option.{Option, none, some}
 use mathlib.Core.List.{List, [], _∷_}
 use Prim.Native.Nat.{ℕ, zero, suc, _+_, _^_, _%_}
 use lib.Dec.{eqb}
+use Rattle.numbers.specs.Frequency.{CEILING}
 use Rattle.ledger.specs.Buckets.{Reply}
-use Rattle.ledger.specs.BucketCalls.{BucketCall, Ask, PeekMin, MinFreq, Frequency, EntryEpoch, CurrentEpoch, Len, IsEmpty, Contains, Insert, Touch, TouchCapped, Remove, PopMin, SetEntryEpoch, SetEpoch, AdvanceEpoch, DecayHalve, RebaseMinFreq, Clear, InsertBatch, TouchBatch, RemoveBatch}
+use Rattle.ledger.specs.BucketCalls.{BucketCall, Ask, PeekMin, MinFreq, Frequency, EntryEpoch, CurrentEpoch, Len, IsEmpty, Contains, Insert, Touch, Remove, PopMin, SetEntryEpoch, SetEpoch, AdvanceEpoch, DecayHalve, RebaseMinFreq, Clear, InsertBatch, TouchBatch, RemoveBatch}
 use Rattle.promise.specs.Promise.{Makes}
 use Rattle.buckets_tables.specs.declared.State.{State}
 use Rattle.buckets_tables.specs.Tables.{Tables}
@@ -47,8 +48,8 @@ wholeCall code a b =
 abbrev pub bucketCall : (code a b : ℕ) → Option BucketCall
 bucketCall code a b =
     cond (eqb code 1) (some (Insert a))
-    (cond (eqb code 2) (some (Touch a))
-    (cond (eqb code 3) (some (TouchCapped b a))
+    (cond (eqb code 2) (some (Touch CEILING a))
+    (cond (eqb code 3) (some (Touch b a))
     (cond (eqb code 4) (some (Remove a))
     (cond (eqb code 5) (some PopMin) (wholeCall code a b)))))
 

@@ -16,7 +16,6 @@ use frequency_buckets::insert;
 use frequency_buckets::pop_min;
 use frequency_buckets::remove;
 use frequency_buckets::touch;
-use frequency_buckets::touch_capped;
 use numbers::Frequency;
 use numbers::Key;
 
@@ -46,8 +45,21 @@ pub fn act(
 {
     match code {
         1 => stored(insert(k, f, e, p, n, ar, ix, bk, sp, state, Key(a))),
-        2 => leveled(touch(&k[..], f, e, p, n, &ar[..], &ix[..], bk, sp, state, Key(a))),
-        3 => leveled(touch_capped(
+        2 => leveled(touch(
+            &k[..],
+            f,
+            e,
+            p,
+            n,
+            &ar[..],
+            &ix[..],
+            bk,
+            sp,
+            state,
+            Key(a),
+            Frequency::CEILING,
+        )),
+        3 => leveled(touch(
             &k[..],
             f,
             e,

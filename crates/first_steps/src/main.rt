@@ -7,6 +7,7 @@ use frequency_buckets::insert;
 use frequency_buckets::pop_min;
 use frequency_buckets::touch;
 use frequency_buckets_make::new;
+use numbers::Frequency;
 use numbers::Key;
 
 // Who goes: the tables are keys, freqs, epochs, prevs, nexts, arena, index, buckets and spares, as in every signature.
@@ -24,7 +25,20 @@ fn leaves(
     let made = new(k, f, e, p, n, a, i, b, s, 4);
     let one = insert(k, f, e, p, n, a, i, b, s, made.state, Key(7));
     let two = insert(k, f, e, p, n, a, i, b, s, one.state, Key(9));
-    let hit = touch(k, f, e, p, n, a, i, b, s, two.state, Key(7));
+    let hit = touch(
+        k,
+        f,
+        e,
+        p,
+        n,
+        a,
+        i,
+        b,
+        s,
+        two.state,
+        Key(7),
+        Frequency::CEILING,
+    );
     let out = pop_min(k, f, e, p, n, a, i, b, s, hit.state);
     out.answer
 }

@@ -65,59 +65,8 @@ pub fn insert(
     }
 }
 
-// Hits a bound key; the answer is its new frequency.
+// Hits a bound key up to a cap, of which 0 is read as 1; the answer is its new frequency. The cap of a plain touch is the ceiling.
 pub fn touch(
-    keys: &[u64],
-    freqs: &mut [u64],
-    epochs: &mut [u64],
-    prevs: &mut [u64],
-    nexts: &mut [u64],
-    arena: &[u64],
-    index: &[u64],
-    buckets: &mut [u64],
-    spares: &mut [u64],
-    state: State,
-    key: Key,
-) -> Leveled
-    ensures { λ r. ⌜ Makes kind.buckets (ledger.Touch (key .0))
-        (before keys freqs epochs prevs nexts arena index buckets spares) state (levelReply (r .answer))
-        (after keys freqs epochs prevs nexts arena index buckets spares) (r .state) ⌝ }
-{
-    let why = buckets_check::refusal(
-        keys,
-        &freqs[..],
-        &epochs[..],
-        &prevs[..],
-        &nexts[..],
-        arena,
-        index,
-        &buckets[..],
-        &spares[..],
-        state,
-    );
-    if why.is_done() {
-        return buckets_calls::sound::touch(
-            keys,
-            freqs,
-            epochs,
-            prevs,
-            nexts,
-            index,
-            buckets,
-            spares,
-            state,
-            key,
-            Frequency::CEILING,
-        );
-    }
-    Leveled {
-        answer: Level::Refused(why),
-        state: state,
-    }
-}
-
-// Hits a bound key up to a cap; a cap of 0 is read as 1.
-pub fn touch_capped(
     keys: &[u64],
     freqs: &mut [u64],
     epochs: &mut [u64],
@@ -131,7 +80,7 @@ pub fn touch_capped(
     key: Key,
     cap: Frequency,
 ) -> Leveled
-    ensures { λ r. ⌜ Makes kind.buckets (ledger.TouchCapped (cap .0) (key .0))
+    ensures { λ r. ⌜ Makes kind.buckets (ledger.Touch (cap .0) (key .0))
         (before keys freqs epochs prevs nexts arena index buckets spares) state (levelReply (r .answer))
         (after keys freqs epochs prevs nexts arena index buckets spares) (r .state) ⌝ }
 {
@@ -159,7 +108,7 @@ pub fn touch_capped(
             spares,
             state,
             key,
-            cap.as_cap(),
+            cap,
         );
     }
     Leveled {

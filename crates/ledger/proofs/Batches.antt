@@ -4,6 +4,7 @@ use mathlib.Core.Path.{_≡_, refl, sym, ap, _∙_}
 use mathlib.Core.List.{List, [], _∷_, map}
 use Prim.Native.Nat.{ℕ, _+_}
 use Rattle.lists.specs.Lists.{sum}
+use Rattle.numbers.specs.Frequency.{CEILING}
 use Rattle.ledger.specs.Ledger.{Ledger}
 use Rattle.ledger.specs.Buckets.{Outcome, done, wasDone, batch, counted, insert, touch, remove, insertBatch, touchBatch, removeBatch}
 use Rattle.ledger.specs.BucketCalls.{BucketCall, calls, replies, afterCalls}
@@ -35,9 +36,9 @@ pub insertBatch-steps : (ks : List ℕ) (l : Ledger) → insertBatch ks l ≡ st
 unfolding insertBatch calls
 insertBatch-steps ks l = batch-steps insert BucketCalls.Insert (λ k m. refl) ks l
 
-pub touchBatch-steps : (ks : List ℕ) (l : Ledger) → touchBatch ks l ≡ steps l (map BucketCalls.Touch ks)
+pub touchBatch-steps : (ks : List ℕ) (l : Ledger) → touchBatch ks l ≡ steps l (map (BucketCalls.Touch CEILING) ks)
 unfolding touchBatch calls
-touchBatch-steps ks l = batch-steps touch BucketCalls.Touch (λ k m. refl) ks l
+touchBatch-steps ks l = batch-steps (touch CEILING) (BucketCalls.Touch CEILING) (λ k m. refl) ks l
 
 pub removeBatch-steps : (ks : List ℕ) (l : Ledger) → removeBatch ks l ≡ steps l (map BucketCalls.Remove ks)
 unfolding removeBatch calls

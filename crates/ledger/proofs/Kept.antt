@@ -9,9 +9,9 @@ use Rattle.numbers.specs.Frequency.{CEILING, raised, capOf}
 use Rattle.lists.specs.Lists.{In}
 use Rattle.lists.proofs.Tests.{if-eq}
 use Rattle.ledger.specs.Ledger.{Level, Ledger, Item, new, items, lookup, ifFound, lowest, put, release, move, keyed, WellFormed}
-use Rattle.ledger.specs.Buckets.{Outcome, insertAs, insert, touchUpTo, touch, touchCapped, remove, popMin, peekMin, minFreq, frequency, entryEpoch, redated, setEntryEpoch, currentEpoch, atEpoch, setEpoch, advanceEpoch, len, isEmpty, contains, clear, batch, insertBatch, touchBatch, removeBatch}
+use Rattle.ledger.specs.Buckets.{Outcome, insertAs, insert, touch, remove, popMin, peekMin, minFreq, frequency, entryEpoch, redated, setEntryEpoch, currentEpoch, atEpoch, setEpoch, advanceEpoch, len, isEmpty, contains, clear, batch, insertBatch, touchBatch, removeBatch}
 use Rattle.ledger.specs.Rebuild.{rebuild, byLowest, decayHalve, rebaseMinFreq}
-use Rattle.ledger.specs.BucketCalls.{Query, PeekMin, MinFreq, Frequency, EntryEpoch, CurrentEpoch, Len, IsEmpty, Contains, WalkStart, WalkStep, BucketCall, Ask, Insert, Touch, TouchCapped, Remove, PopMin, SetEntryEpoch, SetEpoch, AdvanceEpoch, DecayHalve, RebaseMinFreq, Clear, InsertBatch, TouchBatch, RemoveBatch, asks, calls}
+use Rattle.ledger.specs.BucketCalls.{Query, PeekMin, MinFreq, Frequency, EntryEpoch, CurrentEpoch, Len, IsEmpty, Contains, WalkStart, WalkStep, BucketCall, Ask, Insert, Touch, Remove, PopMin, SetEntryEpoch, SetEpoch, AdvanceEpoch, DecayHalve, RebaseMinFreq, Clear, InsertBatch, TouchBatch, RemoveBatch, asks, calls}
 use Rattle.ledger.proofs.Items.{found-in, found-none}
 use Rattle.ledger.proofs.Rising.{lowest-in}
 use Rattle.ledger.proofs.Changes.{new-formed, put-formed, release-formed, move-formed, raised-fits, epoch-formed, redated-formed}
@@ -57,8 +57,7 @@ pub record Changes (R : Ledger → Ledger → Type 0) : Type 0 where
 abbrev pub Fits : BucketCall → Type 0
 Fits (Ask q) = Unit {0}
 Fits (Insert k) = Unit {0}
-Fits (Touch k) = Unit {0}
-Fits (TouchCapped cap k) = cap ≤ CEILING
+Fits (Touch cap k) = cap ≤ CEILING
 Fits (Remove k) = Unit {0}
 Fits PopMin = Unit {0}
 Fits (SetEntryEpoch k n) = Unit {0}
@@ -81,10 +80,10 @@ module _ (R : Ledger → Ledger → Type 0) (h : Changes R) where
   unfolding insert
   insert-keeps k l = insertAs-keeps k l (lookup k l) (l .free) refl refl
 
-  touch-keeps : (cap k : ℕ) (l : Ledger) → cap ≤ CEILING → R l (touchUpTo cap k l .1)
-  unfolding touchUpTo
+  touch-keeps : (cap k : ℕ) (l : Ledger) → cap ≤ CEILING → R l (touch cap k l .1)
+  unfolding touch
   touch-keeps cap k l c =
-      by-found (λ (o : Outcome). R l (o .1)) (lookup k l) _ _ (λ e. h .stays l) (λ x e. h .moves l x cap (found-in k (items (l .levels)) x e .0) c)
+      by-found (λ (o : Outcome). R l (o .1)) (lookup k l) _ _ (λ e. h .stays l) (λ x e. h .moves l x (capOf cap) (found-in k (items (l .levels)) x e .0) (omega arith))
 
   remove-keeps : (k : ℕ) (l : Ledger) → R l (remove k l .1)
   unfolding remove
@@ -96,11 +95,10 @@ module _ (R : Ledger → Ledger → Type 0) (h : Changes R) where
   batch-keeps call f (k ∷ ks) l = h .goes-on l (call k l .1) _ (f k l) (batch-keeps call f ks (call k l .1))
 
   pub calls-keep : (c : BucketCall) → Fits c → (l : Ledger) → R l (calls c l .1)
-  unfolding calls touch touchCapped popMin setEntryEpoch setEpoch advanceEpoch clear insertBatch touchBatch removeBatch
+  unfolding calls popMin setEntryEpoch setEpoch advanceEpoch clear insertBatch touchBatch removeBatch
   calls-keep (Ask q) fits l = rw (queries-leave q l) (h .stays l)
   calls-keep (Insert k) fits l = insert-keeps k l
-  calls-keep (Touch k) fits l = touch-keeps CEILING k l (omega arith)
-  calls-keep (TouchCapped cap k) fits l = touch-keeps (capOf cap) k l (omega arith)
+  calls-keep (Touch cap k) fits l = touch-keeps cap k l fits
   calls-keep (Remove k) fits l = remove-keeps k l
   calls-keep PopMin fits l =
       by-found (λ (o : Outcome). R l (o .1)) (lowest (l .levels)) _ _ (λ e. h .stays l) (λ x e. h .releases l x (lowest-in (l .levels) x e))
@@ -111,7 +109,7 @@ module _ (R : Ledger → Ledger → Type 0) (h : Changes R) where
   calls-keep RebaseMinFreq fits l = h .rebases l
   calls-keep Clear fits l = h .empties l
   calls-keep (InsertBatch ks) fits l = batch-keeps insert insert-keeps ks l
-  calls-keep (TouchBatch ks) fits l = batch-keeps touch (λ k m. touch-keeps CEILING k m (omega arith)) ks l
+  calls-keep (TouchBatch ks) fits l = batch-keeps (touch CEILING) (λ k m. touch-keeps CEILING k m (omega arith)) ks l
   calls-keep (RemoveBatch ks) fits l = batch-keeps remove remove-keeps ks l
 
 pub calls-formed : (c : BucketCall) → Fits c → (l : Ledger) → WellFormed l → WellFormed (calls c l .1)

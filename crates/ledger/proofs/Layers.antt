@@ -5,8 +5,9 @@ use mathlib.Core.Path.{_≡_, refl}
 use mathlib.Core.Option.{Option, none, some}
 use mathlib.Core.List.{List, [], _∷_}
 use Prim.Native.Nat.{ℕ}
+use Rattle.numbers.specs.Frequency.{CEILING}
 use Rattle.ledger.specs.Ledger.{Ledger, Item, items, lookup, ifFound, lowest, release}
-use Rattle.ledger.specs.Buckets.{Outcome, insert, touchUpTo, touch, remove, popMin, peekMin}
+use Rattle.ledger.specs.Buckets.{Outcome, insert, touch, remove, popMin, peekMin}
 use Rattle.ledger.specs.Cache.{Cache, Lookup, Least, valueOf, bind, unbind, cacheInsert, cacheGet, cacheRemove, cacheReset, cachePeekLfu, cacheEvict}
 use Rattle.ledger.proofs.Items.{found-in, found-none, none-found}
 use Rattle.ledger.proofs.Changes.{fresh-again, fresh-after}
@@ -32,8 +33,8 @@ module _ (c : Cache) where
   evict-pops = both-found (λ (o : Least × Cache). o .1 .table) (λ (o : Outcome). o .1) (lowest (c .table .levels)) _ _ _ _ refl (λ x. refl)
 
   module _ (k : ℕ) where
-    pub get-touches : cacheGet k c .1 .table ≡ touch k (c .table) .1
-    unfolding cacheGet touch touchUpTo
+    pub get-touches : cacheGet k c .1 .table ≡ touch CEILING k (c .table) .1
+    unfolding cacheGet touch
     get-touches = both-found (λ (o : Lookup × Cache). o .1 .table) (λ (o : Outcome). o .1) (lookup k (c .table)) _ _ _ _ refl (λ x. refl)
 
     pub remove-removes : cacheRemove k c .1 .table ≡ remove k (c .table) .1

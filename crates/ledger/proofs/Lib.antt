@@ -8,6 +8,7 @@ pub mod Walked
 pub mod Refusals
 pub mod CacheKept
 pub mod Layers
+pub mod OldTouches
 pub mod Batches
 pub mod CacheRefusals
 pub mod Told

@@ -10,11 +10,11 @@ use lib.ListN.{length}
 use Rattle.numbers.specs.declared.Answer.{Answer}
 use Rattle.numbers.specs.declared.Answer.the-variants.{Absent, Present, Full, Empty}
 use Rattle.ledger.specs.Ledger.{Ledger, Item, items, lookup, ifFound, size, lowest, WellFormed}
-use Rattle.ledger.specs.Buckets.{Outcome, done, refused, insertAs, insert, touchUpTo, touch, touchCapped, remove, popMin, peekMin, minFreq, frequency, entryEpoch, setEntryEpoch, currentEpoch, setEpoch, advanceEpoch, len, isEmpty, contains, clear, insertBatch, touchBatch, removeBatch}
+use Rattle.ledger.specs.Buckets.{Outcome, done, refused, insertAs, insert, touch, remove, popMin, peekMin, minFreq, frequency, entryEpoch, setEntryEpoch, currentEpoch, setEpoch, advanceEpoch, len, isEmpty, contains, clear, insertBatch, touchBatch, removeBatch}
 use Rattle.ledger.specs.Rebuild.{decayHalve, rebaseMinFreq}
 use Rattle.ledger.specs.Walk.{Step, here, noMore, absent, stepReply, start, step}
-use Rattle.ledger.specs.BucketCalls.{Query, PeekMin, MinFreq, Frequency, EntryEpoch, CurrentEpoch, Len, IsEmpty, Contains, WalkStart, WalkStep, BucketCall, Ask, Insert, Touch, TouchCapped, Remove, PopMin, SetEntryEpoch, SetEpoch, AdvanceEpoch, DecayHalve, RebaseMinFreq, Clear, InsertBatch, TouchBatch, RemoveBatch, asks, calls}
-use Rattle.ledger.specs.Refusals.{Bound, Unbound, Refused, touches, touchesCapped, removes, asksFrequency, asksEpoch, setsEpoch, steps, inserts, insertsInto, pops, peeks, asksLowest}
+use Rattle.ledger.specs.BucketCalls.{Query, PeekMin, MinFreq, Frequency, EntryEpoch, CurrentEpoch, Len, IsEmpty, Contains, WalkStart, WalkStep, BucketCall, Ask, Insert, Touch, Remove, PopMin, SetEntryEpoch, SetEpoch, AdvanceEpoch, DecayHalve, RebaseMinFreq, Clear, InsertBatch, TouchBatch, RemoveBatch, asks, calls}
+use Rattle.ledger.specs.Refusals.{Bound, Unbound, Refused, touches, removes, asksFrequency, asksEpoch, setsEpoch, steps, inserts, insertsInto, pops, peeks, asksLowest}
 use Rattle.ledger.proofs.Items.{found-in, found-none, none-found, in-keyed}
 use Rattle.ledger.proofs.Rising.{lowest-none, lowest-some}
 use Rattle.ledger.proofs.Slots.{size-and-free}
@@ -131,11 +131,10 @@ module _ (l : Ledger) (w : WellFormed l) where
       let p = step-refused s (step s l) a e in subst (Refused l (Ask (WalkStep s))) (p .1) (steps s (step-absent l w s .0 (p .0)))
 
   why : (c : BucketCall) (a : Answer) → calls c l .0 ≡ refused a → Refused l c a
-  unfolding calls insert touchUpTo touch touchCapped remove popMin setEntryEpoch setEpoch advanceEpoch clear decayHalve rebaseMinFreq insertBatch touchBatch removeBatch
+  unfolding calls insert touch remove popMin setEntryEpoch setEpoch advanceEpoch clear decayHalve rebaseMinFreq insertBatch touchBatch removeBatch
   why (Ask q) a e = asks-why q a e
   why (Insert k) a e = insertAs-refused k (lookup k l) (l .free) a refl refl e
-  why (Touch k) a e = needs-key k (Touch k) a _ _ (touches k) e
-  why (TouchCapped cap k) a e = needs-key k (TouchCapped cap k) a _ _ (touchesCapped cap k) e
+  why (Touch cap k) a e = needs-key k (Touch cap k) a _ _ (touches cap k) e
   why (Remove k) a e = needs-key k (Remove k) a _ _ (removes k) e
   why PopMin a e = needs-any PopMin a _ _ pops e
   why (SetEntryEpoch k n) a e = needs-key k (SetEntryEpoch k n) a _ _ (setsEpoch k n) e
@@ -149,9 +148,8 @@ module _ (l : Ledger) (w : WellFormed l) where
   why (RemoveBatch ks) a e = done-refused _ a e
 
   refuses : (c : BucketCall) (a : Answer) → Refused l c a → calls c l .0 ≡ refused a
-  unfolding asks calls insert touchUpTo touch touchCapped remove popMin peekMin minFreq frequency entryEpoch setEntryEpoch
-  refuses _ _ (touches k h) = nothing-found (lookup k l) Absent l _ (of-unbound k h)
-  refuses _ _ (touchesCapped cap k h) = nothing-found (lookup k l) Absent l _ (of-unbound k h)
+  unfolding asks calls insert touch remove popMin peekMin minFreq frequency entryEpoch setEntryEpoch
+  refuses _ _ (touches cap k h) = nothing-found (lookup k l) Absent l _ (of-unbound k h)
   refuses _ _ (removes k h) = nothing-found (lookup k l) Absent l _ (of-unbound k h)
   refuses _ _ (asksFrequency k h) = nothing-found (lookup k l) Absent l _ (of-unbound k h)
   refuses _ _ (asksEpoch k h) = nothing-found (lookup k l) Absent l _ (of-unbound k h)
@@ -180,11 +178,10 @@ found-leaves none y a l ns m e = refl
 found-leaves (some x) y a l ns m e = done-refused (ns x) a e
 
 pub refused-leaves : (c : BucketCall) (l : Ledger) (a : Answer) → calls c l .0 ≡ refused a → calls c l .1 ≡ l
-unfolding calls insert touchUpTo touch touchCapped remove popMin setEntryEpoch setEpoch advanceEpoch clear decayHalve rebaseMinFreq insertBatch touchBatch removeBatch
+unfolding calls insert touch remove popMin setEntryEpoch setEpoch advanceEpoch clear decayHalve rebaseMinFreq insertBatch touchBatch removeBatch
 refused-leaves (Ask q) l a e = queries-leave q l
 refused-leaves (Insert k) l a e = insertAs-leaves k l (lookup k l) (l .free) a e
-refused-leaves (Touch k) l a e = found-leaves (lookup k l) Absent a l _ _ e
-refused-leaves (TouchCapped cap k) l a e = found-leaves (lookup k l) Absent a l _ _ e
+refused-leaves (Touch cap k) l a e = found-leaves (lookup k l) Absent a l _ _ e
 refused-leaves (Remove k) l a e = found-leaves (lookup k l) Absent a l _ _ e
 refused-leaves PopMin l a e = found-leaves (lowest (l .levels)) Empty a l _ _ e
 refused-leaves (SetEntryEpoch k n) l a e = found-leaves (lookup k l) Absent a l _ _ e

@@ -2,7 +2,7 @@
 use mathlib.Core.List.{List, [], _∷_}
 use Prim.Native.Nat.{ℕ}
 use Rattle.ledger.specs.Ledger.{Ledger}
-use Rattle.ledger.specs.Buckets.{Outcome, Reply, insert, touch, touchCapped, remove, popMin, peekMin, minFreq, frequency, entryEpoch, setEntryEpoch, currentEpoch, setEpoch, advanceEpoch, len, isEmpty, contains, clear, insertBatch, touchBatch, removeBatch}
+use Rattle.ledger.specs.Buckets.{Outcome, Reply, insert, touch, remove, popMin, peekMin, minFreq, frequency, entryEpoch, setEntryEpoch, currentEpoch, setEpoch, advanceEpoch, len, isEmpty, contains, clear, insertBatch, touchBatch, removeBatch}
 use Rattle.ledger.specs.Rebuild.{decayHalve, rebaseMinFreq}
 use Rattle.ledger.specs.Walk.{stepReply, start, step}
 
@@ -22,8 +22,7 @@ pub data Query : Type 0 where
 pub data BucketCall : Type 0 where
   Ask : Query → BucketCall
   Insert : (key : ℕ) → BucketCall
-  Touch : (key : ℕ) → BucketCall
-  TouchCapped : (cap key : ℕ) → BucketCall
+  Touch : (cap key : ℕ) → BucketCall
   Remove : (key : ℕ) → BucketCall
   PopMin : BucketCall
   SetEntryEpoch : (key epoch : ℕ) → BucketCall
@@ -51,8 +50,7 @@ asks (WalkStep s) l = (stepReply (step s l), l)
 unfoldable pub calls : BucketCall → Ledger → Outcome
 calls (Ask q) l = asks q l
 calls (Insert k) l = insert k l
-calls (Touch k) l = touch k l
-calls (TouchCapped cap k) l = touchCapped cap k l
+calls (Touch cap k) l = touch cap k l
 calls (Remove k) l = remove k l
 calls PopMin l = popMin l
 calls (SetEntryEpoch k n) l = setEntryEpoch k n l

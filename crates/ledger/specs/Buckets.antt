@@ -35,17 +35,11 @@ insertAs none (s ∷ rest) k l = (done [], put k s rest l)
 unfoldable pub insert : ℕ → Ledger → Outcome
 insert k l = insertAs (lookup k l) (l .free) k l
 
--- a hit up to a cap: one level up while below it, else to the head of its own list; the answer is the new frequency
-unfoldable pub touchUpTo : ℕ → ℕ → Ledger → Outcome
-touchUpTo cap k l =
-    ifFound (lookup k l) (refused Absent, l) (λ x. let f = raised cap (x .frequency) in (done (f ∷ []), move x f l))
-
-unfoldable pub touch : ℕ → Ledger → Outcome
-touch k l = touchUpTo CEILING k l
-
--- a cap of 0 is read as 1
-unfoldable pub touchCapped : ℕ → ℕ → Ledger → Outcome
-touchCapped cap k l = touchUpTo (capOf cap) k l
+-- a hit up to a cap, of which 0 is read as 1: one level up while below it, else to the head of its own list; a frequency above the cap is
+-- never lowered; the answer is the new frequency. The cap of a plain touch is the ceiling.
+unfoldable pub touch : (cap key : ℕ) → Ledger → Outcome
+touch cap k l =
+    ifFound (lookup k l) (refused Absent, l) (λ x. let f = raised (capOf cap) (x .frequency) in (done (f ∷ []), move x f l))
 
 -- answers the frequency
 unfoldable pub remove : ℕ → Ledger → Outcome
@@ -135,7 +129,7 @@ unfoldable pub insertBatch : List ℕ → Ledger → Outcome
 insertBatch ks l = counted (batch insert ks l)
 
 unfoldable pub touchBatch : List ℕ → Ledger → Outcome
-touchBatch ks l = counted (batch touch ks l)
+touchBatch ks l = counted (batch (touch CEILING) ks l)
 
 unfoldable pub removeBatch : List ℕ → Ledger → Outcome
 removeBatch ks l = counted (batch remove ks l)

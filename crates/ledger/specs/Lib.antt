@@ -1,6 +1,7 @@
 pub mod Ledger
 pub mod Buckets
 pub mod Rebuild
+pub mod OldTouches
 pub mod Walk
 pub mod BucketCalls
 pub mod Cache

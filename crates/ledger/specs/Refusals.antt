@@ -1,11 +1,11 @@
 -- The "exactly when" column of document 01's table, for the calls of the buckets and of the cache. That each call is refused
--- exactly then is `refused-exactly` and `cache-refused-exactly` of proofs/Refusals.antt.
+-- exactly then is `refused-exactly` of proofs/Refusals.antt and `cache-refused-exactly` of proofs/CacheRefusals.antt.
 use mathlib.Core.Path.{_≡_}
 use Prim.Native.Nat.{ℕ, _≤_}
 use Rattle.numbers.specs.declared.Answer.{Answer}
 use Rattle.numbers.specs.declared.Answer.the-variants.{Absent, Present, Full, Empty}
 use Rattle.ledger.specs.Ledger.{Ledger, items, size, keyed, slotted}
-use Rattle.ledger.specs.BucketCalls.{PeekMin, MinFreq, Frequency, EntryEpoch, WalkStep, BucketCall, Ask, Insert, Touch, TouchCapped, Remove, PopMin, SetEntryEpoch}
+use Rattle.ledger.specs.BucketCalls.{PeekMin, MinFreq, Frequency, EntryEpoch, WalkStep, BucketCall, Ask, Insert, Touch, Remove, PopMin, SetEntryEpoch}
 use Rattle.ledger.specs.Cache.{Cache}
 use Rattle.ledger.specs.History.{CacheCall}
 use Rattle.ledger.specs.History
@@ -18,8 +18,7 @@ Unbound k l = keyed k (items (l .levels)) ≡ 0
 
 pub data Refused (l : Ledger) : BucketCall → Answer → Type 0 where
   -- the key is not bound, in a call that needs it; a walk's step from no bound slot
-  touches : (k : ℕ) → Unbound k l → Refused l (Touch k) Absent
-  touchesCapped : (cap k : ℕ) → Unbound k l → Refused l (TouchCapped cap k) Absent
+  touches : (cap k : ℕ) → Unbound k l → Refused l (Touch cap k) Absent
   removes : (k : ℕ) → Unbound k l → Refused l (Remove k) Absent
   asksFrequency : (k : ℕ) → Unbound k l → Refused l (Ask (Frequency k)) Absent
   asksEpoch : (k : ℕ) → Unbound k l → Refused l (Ask (EntryEpoch k)) Absent

@@ -7,7 +7,7 @@ use Prim.Native.Nat.{ℕ, _+_}
 use Rattle.numbers.specs.declared.Answer.the-variants.{Absent}
 use Rattle.numbers.specs.Frequency.{CEILING, raised}
 use Rattle.ledger.specs.Ledger.{Item, lookup, ifFound, move}
-use Rattle.ledger.specs.Buckets.{Outcome, done, refused, wasDone, batch, touch, touchUpTo, touchBatch}
+use Rattle.ledger.specs.Buckets.{Outcome, done, refused, wasDone, batch, touch, touchBatch}
 use Rattle.ledger.specs.Cache.{Cache, Lookup, hit, miss, valueOf, moved, wasHit, cacheGet, keyBatch, cacheTouchBatch}
 use Rattle.ledger.specs.CacheCalls.{touchBatchCall}
 use Rattle.ledger.proofs.Batches.{cacheTouchBatch-formed}
@@ -27,8 +27,8 @@ over c o = record { table = o .1; values = c .values }
 abbrev Alike : Cache → Lookup × Cache → Outcome → Type 0
 Alike c g o = (wasHit (g .0) ≡ wasDone (o .0)) × (g .1 ≡ over c o)
 
-get-touch : (k : ℕ) (c : Cache) → Alike c (cacheGet k c) (touch k (c .table))
-unfolding cacheGet touch touchUpTo
+get-touch : (k : ℕ) (c : Cache) → Alike c (cacheGet k c) (touch CEILING k (c .table))
+unfolding cacheGet touch
 get-touch k c = go (lookup k (c .table))
   where
     go : (o : Option Item) →
@@ -37,11 +37,11 @@ get-touch k c = go (lookup k (c .table))
     go none = (refl, refl)
     go (some x) = (refl, refl)
 
-gets-touch : (ks : List ℕ) (c : Cache) → keyBatch cacheGet ks c ≡ (batch touch ks (c .table) .0, record { table = batch touch ks (c .table) .1; values = c .values })
+gets-touch : (ks : List ℕ) (c : Cache) → keyBatch cacheGet ks c ≡ (batch (touch CEILING) ks (c .table) .0, record { table = batch (touch CEILING) ks (c .table) .1; values = c .values })
 gets-touch [] c = refl
 gets-touch (k ∷ ks) c =
     let s = get-touch k c in
-    let rest = ap (λ (d : Cache). keyBatch cacheGet ks d) (s .1) ∙ gets-touch ks (over c (touch k (c .table))) in
+    let rest = ap (λ (d : Cache). keyBatch cacheGet ks d) (s .1) ∙ gets-touch ks (over c (touch CEILING k (c .table))) in
     λ i. (s .0 i + rest i .0, rest i .1)
 
 pub touches-all : (ks : List ℕ) (t : Tables) (vs : List ℕ) (s : State) (n : ℕ) (t' : Tables) (s' : State) → Does buckets (touchBatch ks) t s (done (n ∷ [])) t' s' →

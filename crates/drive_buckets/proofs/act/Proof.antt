@@ -20,8 +20,8 @@ touch-requires c κs = search needs
 leveled-requires : tie.Need-leveled-requires
 leveled-requires c κs = search needs
 
-touch-capped-requires : tie.Need-touch-capped-requires
-touch-capped-requires c κs = search needs
+touch-requires-2 : tie.Need-touch-requires-2
+touch-requires-2 c κs = search needs
 
 leveled-requires-2 : tie.Need-leveled-requires-2
 leveled-requires-2 c κs = search needs
@@ -105,16 +105,16 @@ same-length-19 : tie.Need-same-length-19
 same-length-19 c = refl
 
 same-length-20 : tie.Need-same-length-20
-same-length-20 c = c .before .before .before .before .before .before .before .before .before .before .before .before .before .touch-capped .kept .1 .0
+same-length-20 c = c .before .before .before .before .before .before .before .before .before .before .before .before .before .touch2 .kept .1 .0
 
 same-length-21 : tie.Need-same-length-21
-same-length-21 c = c .before .before .before .before .before .before .before .before .before .before .before .before .before .touch-capped .kept .1 .1 .0
+same-length-21 c = c .before .before .before .before .before .before .before .before .before .before .before .before .before .touch2 .kept .1 .1 .0
 
 same-length-22 : tie.Need-same-length-22
-same-length-22 c = c .before .before .before .before .before .before .before .before .before .before .before .before .before .touch-capped .kept .1 .1 .1 .0
+same-length-22 c = c .before .before .before .before .before .before .before .before .before .before .before .before .before .touch2 .kept .1 .1 .1 .0
 
 same-length-23 : tie.Need-same-length-23
-same-length-23 c = c .before .before .before .before .before .before .before .before .before .before .before .before .before .touch-capped .kept .1 .1 .1 .1 .0
+same-length-23 c = c .before .before .before .before .before .before .before .before .before .before .before .before .before .touch2 .kept .1 .1 .1 .1 .0
 
 same-length-24 : tie.Need-same-length-24
 same-length-24 c = refl
@@ -123,13 +123,13 @@ same-length-25 : tie.Need-same-length-25
 same-length-25 c = refl
 
 same-length-26 : tie.Need-same-length-26
-same-length-26 c = c .before .before .before .before .before .before .before .before .before .before .before .before .before .touch-capped .kept .1 .1 .1 .1 .1 .1 .1 .0
+same-length-26 c = c .before .before .before .before .before .before .before .before .before .before .before .before .before .touch2 .kept .1 .1 .1 .1 .1 .1 .1 .0
 
 same-length-27 : tie.Need-same-length-27
-same-length-27 c = c .before .before .before .before .before .before .before .before .before .before .before .before .before .touch-capped .kept .1 .1 .1 .1 .1 .1 .1 .1 .0
+same-length-27 c = c .before .before .before .before .before .before .before .before .before .before .before .before .before .touch2 .kept .1 .1 .1 .1 .1 .1 .1 .1 .0
 
 returns-3 : tie.Need-returns-3
-returns-3 c = made _ _ _ _ _ (λ (m : ℕ). bucketCall m (c .before .before .before .before .before .before .before .before .before .before .before .before .before .before .before .before .before .before .before .before .before .before .before .before .before .before .before .before .before .before .before .before .before .args .a) (c .before .before .before .before .before .before .before .before .before .before .before .before .before .before .before .before .before .before .before .before .before .before .before .before .before .before .before .before .before .before .before .before .before .args .b)) _ 3 _ refl (c .before .before .before .before .before .before .before .before .before .before .before .before .before .before .before .before .before .before .before .before .before .before .before .match .keys3) (levelReply (c .before .before .before .before .before .before .before .before .before .before .before .before .before .touch-capped .result .answer)) (c .before .before .before .before .before .before .before .before .before .before .before .before .before .touch-capped .result .state) (c .leveled2 .ensures .0) (c .leveled2 .ensures .1) (c .before .before .before .before .before .before .before .before .before .before .before .before .before .touch-capped .ensures)
+returns-3 c = made _ _ _ _ _ (λ (m : ℕ). bucketCall m (c .before .before .before .before .before .before .before .before .before .before .before .before .before .before .before .before .before .before .before .before .before .before .before .before .before .before .before .before .before .before .before .before .before .args .a) (c .before .before .before .before .before .before .before .before .before .before .before .before .before .before .before .before .before .before .before .before .before .before .before .before .before .before .before .before .before .before .before .before .before .args .b)) _ 3 _ refl (c .before .before .before .before .before .before .before .before .before .before .before .before .before .before .before .before .before .before .before .before .before .before .before .match .keys3) (levelReply (c .before .before .before .before .before .before .before .before .before .before .before .before .before .touch2 .result .answer)) (c .before .before .before .before .before .before .before .before .before .before .before .before .before .touch2 .result .state) (c .leveled2 .ensures .0) (c .leveled2 .ensures .1) (c .before .before .before .before .before .before .before .before .before .before .before .before .before .touch2 .ensures)
 
 same-length-28 : tie.Need-same-length-28
 same-length-28 c = c .before .before .before .before .before .before .before .before .before .before .before .before .before .before .before .before .before .before .before .remove .kept .0
@@ -229,7 +229,7 @@ act-spec =
     stored-requires
     touch-requires
     leveled-requires
-    touch-capped-requires
+    touch-requires-2
     leveled-requires-2
     remove-requires
     leveled-requires-3

@@ -2,7 +2,6 @@
 use mathlib.Core.Path.{refl}
 use borrow.Author.Needs.{needs}
 use Rattle.ledger.specs.BucketCalls.{calls, Touch}
-use Rattle.ledger.specs.Buckets.{touch}
 use Rattle.buckets_tables.proofs.Public as public
 use Rattle.frequency_buckets.proofs.touch.Statement.{statement}
 use Rattle.frequency_buckets.proofs.touch.Tie as tie
@@ -35,10 +34,10 @@ same-length-6 : tie.Need-same-length-6
 same-length-6 c = c .before .before .before .before .before .before .before .before .before .before .before .before .touch .kept .1 .1 .1 .1 .1 .1 .1 .0
 
 returns : tie.Need-returns
-unfolding calls touch
+unfolding calls
 returns c =
     public.makes _ _ _ _ (c .before .before .before .before .before .before .before .before .before .before .before .before .before .before .before .before .before .before .before .before .before .refusal .ensures) (c .before .before .before .before .before .before .before .before .before .before .before .before .before .before .before .before .before .before .before .before .is-done .ensures)
-    (Touch _) _ _ _ (c .before .before .before .before .before .before .before .before .before .before .before .before .before .before .before .before .before .before .before .if1 .taken) (c .before .before .before .before .before .before .before .before .before .before .before .before .touch .ensures _)
+    (Touch _ _) _ _ _ (c .before .before .before .before .before .before .before .before .before .before .before .before .before .before .before .before .before .before .before .if1 .taken) (c .before .before .before .before .before .before .before .before .before .before .before .before .touch .ensures _)
 
 same-length-7 : tie.Need-same-length-7
 same-length-7 c = refl

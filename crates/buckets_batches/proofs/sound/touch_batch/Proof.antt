@@ -45,7 +45,7 @@ loop-less : tie.Need-loop-less Inv-loop μ-loop
 loop-less c = omega arith
 
 loop-again : tie.Need-loop-again Inv-loop μ-loop
-loop-again c = λ a. laws.batching-more _ _ _ _ _ _ _ _ (c .before .before .before .before .before .before .before .before .before .before .before .before .before .before .before .before .before .before .before .before .before .before .before .loop .inv a) (c .before .before .before .before .before .before .before .before .before .before .before .before .before .before .before .before .before .before .before .before .before .before .loop-test .taken) _ _ _ (laws.touch-up _ _ _ _ _ _ (c .before .before .before .before .before .before .before .before .before .before .before .before .before .before .touch .ensures a)) _ (c .leveled-once .ensures)
+loop-again c = λ a. laws.batching-more _ _ _ _ _ _ _ _ (c .before .before .before .before .before .before .before .before .before .before .before .before .before .before .before .before .before .before .before .before .before .before .before .loop .inv a) (c .before .before .before .before .before .before .before .before .before .before .before .before .before .before .before .before .before .before .before .before .before .before .loop-test .taken) _ _ _ (c .before .before .before .before .before .before .before .before .before .before .before .before .before .before .touch .ensures a) _ (c .leveled-once .ensures)
 
 same-length : tie.Need-same-length Inv-loop μ-loop
 same-length c = let w = c .before .before .before .before .before .before .before .before .before .before .before .pre in laws.batching-sized _ _ _ _ _ _ _ _ (c .before .loop .inv (w .0)) (w .1) .freqs-size ∙ sym (w .1 .1 .carries .sized .freqs-size)

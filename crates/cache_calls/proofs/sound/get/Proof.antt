@@ -1,5 +1,5 @@
 -- A bound key is hit where the index finds it; its value is read before.
-use mathlib.Core.Path.{subst}
+use mathlib.Core.Path.{refl, subst}
 use native.Mathlib.Omega.{arith}
 use denote.Ref.{now}
 use borrow.Author.Needs.{needs}
@@ -47,7 +47,7 @@ same-length-6 : tie.Need-same-length-6
 same-length-6 c = search needs
 
 returns : tie.Need-returns
-returns c = let root = c .before .before .before .before .before .before .before .before .before .before .before .before .before .before .before .before .before .before .before .before .before .before .before .before .before .before .before .before .before .before .before .before .before .before in let at-slot = subst (Finds (now (root .args .index)) (now (root .args .keys)) (root .args .key .0)) (c .before .before .before .before .before .before .before .before .before .before .before .before .before .before .before .before .before .before .before .before .before .before .slot .given .1) (c .before .before .before .before .before .before .before .before .before .before .before .before .before .before .before .before .before .before .before .before .before .before .before .before .find .ensures) in λ a. caching.get-hit _ _ _ _ _ (caching.sought-key _ _ _ _ at-slot) _ _ _ (doing.touch-done _ _ _ _ _ a _ _ _ _ _ _ _ (omega arith) at-slot _ _ _ _ _ _ _ (c .before .before .before .before .before .before .before .before .before .before .before .before .before .hit .ensures))
+returns c = let root = c .before .before .before .before .before .before .before .before .before .before .before .before .before .before .before .before .before .before .before .before .before .before .before .before .before .before .before .before .before .before .before .before .before .before in let at-slot = subst (Finds (now (root .args .index)) (now (root .args .keys)) (root .args .key .0)) (c .before .before .before .before .before .before .before .before .before .before .before .before .before .before .before .before .before .before .before .before .before .before .slot .given .1) (c .before .before .before .before .before .before .before .before .before .before .before .before .before .before .before .before .before .before .before .before .before .before .before .before .find .ensures) in λ a. caching.get-hit _ _ _ _ _ (caching.sought-key _ _ _ _ at-slot) _ _ _ (doing.touch-done _ _ _ _ _ a _ _ _ _ _ _ _ _ refl (omega arith) at-slot _ _ _ _ _ _ _ (c .before .before .before .before .before .before .before .before .before .before .before .before .before .hit .ensures))
 
 returns-2 : tie.Need-returns-2
 returns-2 c = let root = c .before .before .before .before .before .before .before .before .before .before .before .before in λ a. caching.get-miss _ _ _ _ (caching.missed-key _ _ _ (subst (Finds (now (root .args .index)) (now (root .args .keys)) (root .args .key .0)) (c .enum-told .given .1) (c .before .before .find .ensures)))
