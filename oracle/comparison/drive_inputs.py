@@ -11,12 +11,12 @@ from comparison.records import TOP, Input
 
 (INSERT, TOUCH, TOUCH_CAPPED, REMOVE, POP_MIN, PEEK_MIN, MIN_FREQ, FREQUENCY, ENTRY_EPOCH, SET_ENTRY_EPOCH,
  CURRENT_EPOCH, SET_EPOCH, ADVANCE_EPOCH, LEN, IS_EMPTY, CONTAINS, DECAY_HALVE, REBASE_MIN_FREQ, CLEAR, WALK,
- CHECK) = range(1, 22)
+ CHECK, DECAY_HALVE_TIMES) = range(1, 23)
 INSERT_BATCH, TOUCH_BATCH, REMOVE_BATCH, CACHE_INSERT_BATCH, CACHE_REMOVE_BATCH, CACHE_TOUCH_BATCH = range(60, 66)
 (CACHE_INSERT, CACHE_GET, CACHE_PEEK, CACHE_REMOVE, CACHE_CLEAR, CACHE_PEEK_LFU, CACHE_EVICT, CACHE_RESET,
  CACHE_LEN) = range(40, 49)
 BATCHES = range(60, 66)
-BAD_OPERATIONS = (0, *range(22, 30), *range(32, 40), *range(50, 60), *range(67, 256))
+BAD_OPERATIONS = (0, *range(23, 30), *range(32, 40), *range(50, 60), *range(67, 256))
 LARGEST_CAPACITY = LONGEST_BATCH = 4096
 
 # A capacity and how often it comes up in random runs. 4,097 and more are refused.
@@ -32,9 +32,9 @@ BUCKET_QUESTIONS = {PEEK_MIN: 3, MIN_FREQ: 3, FREQUENCY: 3, ENTRY_EPOCH: 3, CURR
                     CONTAINS: 2, WALK: 6, CHECK: 2, "bad": 0.5, "show": 1}
 BUCKET_EVEN_RUN = BUCKET_QUESTIONS | {
     INSERT: 22, TOUCH: 20, TOUCH_CAPPED: 10, REMOVE: 8, POP_MIN: 5, SET_ENTRY_EPOCH: 3, SET_EPOCH: 1, ADVANCE_EPOCH: 3,
-    DECAY_HALVE: 1, REBASE_MIN_FREQ: 1, CLEAR: 0.2, INSERT_BATCH: 2, TOUCH_BATCH: 2, REMOVE_BATCH: 1}
+    DECAY_HALVE: 1, DECAY_HALVE_TIMES: 1, REBASE_MIN_FREQ: 1, CLEAR: 0.2, INSERT_BATCH: 2, TOUCH_BATCH: 2, REMOVE_BATCH: 1}
 BUCKET_LONG_LIVES = BUCKET_QUESTIONS | {
-    INSERT: 20, TOUCH: 45, TOUCH_CAPPED: 10, REMOVE: 1, POP_MIN: 1, ADVANCE_EPOCH: 2, DECAY_HALVE: 0.2,
+    INSERT: 20, TOUCH: 45, TOUCH_CAPPED: 10, REMOVE: 1, POP_MIN: 1, ADVANCE_EPOCH: 2, DECAY_HALVE: 0.2, DECAY_HALVE_TIMES: 0.2,
     REBASE_MIN_FREQ: 0.3, INSERT_BATCH: 1, TOUCH_BATCH: 2}
 
 CACHE_QUESTIONS = {CACHE_PEEK: 6, CACHE_PEEK_LFU: 6, CACHE_LEN: 2, FREQUENCY: 3, LEN: 1, IS_EMPTY: 1, CONTAINS: 2,
@@ -84,6 +84,7 @@ def short_on_buckets(depth):
     keys = (1, 2)
     alphabet = [(operation, key, 2) for operation in (INSERT, TOUCH, TOUCH_CAPPED, REMOVE) for key in keys]
     alphabet += [(operation, 0, 0) for operation in (POP_MIN, DECAY_HALVE, REBASE_MIN_FREQ, ADVANCE_EPOCH)]
+    alphabet.append((DECAY_HALVE_TIMES, 2, 0))
     for capacity in (0, 1, 2):
         tail = [(WALK, frequency, 0) for frequency in range(1, depth + 1)]
         tail += [(CHECK, 0, 0), (PEEK_MIN, 0, 0), (INSERT_BATCH, 100, capacity), (WALK, 1, 0), (CLEAR, 0, 0)]
@@ -151,6 +152,8 @@ def random_record(rng, operation, pool):
         return operation, rng.choice((rng.randrange(1, 4), rng.randrange(40), some_number(rng))), some_number(rng)
     if operation == TOUCH_CAPPED:
         return operation, some_key(rng, pool), rng.choice((0, 1, 2, 3, 4, 8, TOP))
+    if operation == DECAY_HALVE_TIMES:
+        return operation, rng.choice((0, 1, 1, 2, 3, 5, 63, 64, 65, TOP)), some_number(rng)
     if operation == SET_EPOCH:
         return operation, some_number(rng), 0
     if operation in BATCHES:

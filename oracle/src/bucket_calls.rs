@@ -1,4 +1,4 @@
-//! `drive`'s bucket calls, 1 to 21 and 60 to 62, on the original's frequency buckets.
+//! `drive`'s bucket calls, 1 to 22 and 60 to 62, on the original's frequency buckets.
 //!
 //! The original grows without bound. Document 01's fixed capacity is kept here, at the only calls that it concerns: an
 //! insert of an absent key with no free slot is FULL and never reaches the original.
@@ -8,6 +8,7 @@ use crate::answers::{
 };
 use crate::ds::FrequencyBuckets;
 use crate::input::Record;
+use crate::regrouping::{halved, rebased};
 
 pub struct BoundedBuckets {
     buckets: FrequencyBuckets<u64>,
@@ -23,7 +24,7 @@ impl BoundedBuckets {
     pub fn answer(&mut self, record: Record) -> String {
         match record.operation {
             1..=5 | 13 => self.change(record),
-            10 | 12 | 17..=19 => self.silent_change(record),
+            10 | 12 | 17..=19 | 22 => self.silent_change(record),
             6..=9 | 11 | 14..=16 | 20 | 21 => self.question(record),
             60..=62 => self.batch(record),
             30 | 31 | 40..=49 | 63..=66 => SKIP.to_string(),
@@ -53,8 +54,9 @@ impl BoundedBuckets {
                 }
             }
             12 => self.buckets.set_epoch(record.first),
-            17 => self.buckets.decay_halve(),
-            18 => self.buckets.rebase_min_freq(),
+            17 => self.buckets = halved(&self.buckets, self.capacity, 1),
+            18 => self.buckets = rebased(&self.buckets, self.capacity),
+            22 => self.buckets = halved(&self.buckets, self.capacity, record.first),
             _ => self.buckets.clear(),
         }
         done(&[])

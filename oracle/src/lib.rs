@@ -25,3 +25,4 @@ pub mod cache_calls;
 pub mod cache_walk;
 pub mod input;
 pub mod insertion;
+pub mod regrouping;

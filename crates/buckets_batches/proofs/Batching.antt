@@ -54,7 +54,7 @@ module _ (c : Single) (ks : List ℕ) (t : Tables) (s : State) where
     batching-sound w = let o = b .onward (w .0) (w .1) in (o .now-held, o .holds)
 
     pub batching-sized : (w : Sound buckets t s) → Sized t' (w .0 .capacity)
-    batching-sized w = let o = b .onward (w .0) (w .1) in subst (Sized t') (o .capacity) (o .holds .carries .sized)
+    batching-sized w = let o = b .onward (w .0) (w .1) in subst (Sized t') (o .capacity) (o .holds .sized)
 
     pub batching-more : i < length ks → (r : Reply) (t'' : Tables) (s'' : State) → Does buckets (c .call (getD ks i 0)) t' s' r t'' s'' → (d : ℕ) → d ≡ wasDone r →
         Batching c ks t s (i + 1) (n + d) t'' s''

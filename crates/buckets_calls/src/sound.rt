@@ -61,7 +61,6 @@ pub fn insert(
         spares,
         state,
         key,
-        Frequency::FIRST,
     );
     let after = placed.state;
     Stored {

@@ -163,20 +163,18 @@ module _ (t : Tables) (s : State) (fit : SlotAllowed t (s .capacity)) (p : Passe
 
   pub built : Holds t s l
   built = record {
-    carries = record {
-      formed = formed;
-      limit = fit .limit;
-      capacity = refl;
-      sized = fit .sized;
-      count = p .count ∙ sym (bound-used (t .arena) (s .free) l formed (p .arena-sound .1) (fit .sized .arena-size));
-      lowest = p .lowest ∙ lowest-levels (t .keys) (t .epochs) ls;
-      epoch = refl;
-      slots = ls;
-      lists = p .lists-sound .1;
-      entries = refl;
-      free = p .arena-sound .1;
-      index-sound = p .index-sound;
-      indexed = indexed;
-    };
+    formed = formed;
+    limit = fit .limit;
+    capacity = refl;
+    sized = fit .sized;
+    count = p .count ∙ sym (bound-used (t .arena) (s .free) l formed (p .arena-sound .1) (fit .sized .arena-size));
+    lowest = p .lowest ∙ lowest-levels (t .keys) (t .epochs) ls;
+    epoch = refl;
+    slots = ls;
+    lists = p .lists-sound .1;
+    entries = refl;
+    free = p .arena-sound .1;
     zeros = all-of (Blank (t .keys) (t .epochs)) free (λ x i. let m = in-times x free i in free-off x (free-below x m) m .blank);
+    index-sound = p .index-sound;
+    indexed = indexed;
   }

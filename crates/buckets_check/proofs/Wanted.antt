@@ -21,51 +21,51 @@ use Rattle.buckets_check.proofs.Sides.{listed-free, listed-bound, free-
 
 module _ (t : Tables) (s : State) (l : Ledger) (h : Holds t s l) where
   -- how often a slot is bound is how often it stands in the lists
-  bound-listed : (x : ℕ) → slotted x (items (l .levels)) ≡ times x (members (h .carries .slots))
-  bound-listed x = ap (λ ls. slotted x (items ls)) (h .carries .entries) ∙ slotted-members (t .keys) (t .epochs) x (h .carries .slots)
+  bound-listed : (x : ℕ) → slotted x (items (l .levels)) ≡ times x (members (h .slots))
+  bound-listed x = ap (λ ls. slotted x (items ls)) (h .entries) ∙ slotted-members (t .keys) (t .epochs) x (h .slots)
 
   module _ (x : ℕ) (b : x < length (t .keys)) where
     -- bound or free, once
-    once : times x (members (h .carries .slots)) + times x (l .free) ≡ 1
+    once : times x (members (h .slots)) + times x (l .free) ≡ 1
     once =
-        let k = h .carries .sized .keys-size in
+        let k = h .sized .keys-size in
         let y = below-yes x (l .capacity) (omega arith) in
-        let w = h .carries .formed .slots x in
+        let w = h .formed .slots x in
         let e = bound-listed x in
         omega arith
 
     in-lists : x < length (t .freqs)
-    in-lists = let k = h .carries .sized .keys-size in let f = h .carries .sized .freqs-size in omega arith
+    in-lists = let k = h .sized .keys-size in let f = h .sized .freqs-size in omega arith
 
     in-arena : x < length (t .arena)
-    in-arena = let k = h .carries .sized .keys-size in let a = h .carries .sized .arena-size in omega arith
+    in-arena = let k = h .sized .keys-size in let a = h .sized .arena-size in omega arith
 
     off : cells (t .nexts) x ≡ x → Off (t .keys) (t .epochs) (t .arena) (t .index) x
     off e =
-        let z = listed-free (leveled t) (s .buckets) (h .carries .slots) (h .carries .lists) x in-lists e in
+        let z = listed-free (leveled t) (s .buckets) (h .slots) (h .lists) x in-lists e in
         let o = once in
         record {
-          unused = λ u. let f = free-used (t .arena) (s .free) (l .free) (h .carries .free) x u in omega arith;
-          out = λ i. let c = h .carries .indexed x .0 i in let g = bound-listed x in omega arith;
+          unused = λ u. let f = free-used (t .arena) (s .free) (l .free) (h .free) x u in omega arith;
+          out = λ i. let c = h .indexed x .0 i in let g = bound-listed x in omega arith;
           blank = all-in (Blank (t .keys) (t .epochs)) (l .free) x (h .zeros) (times-in x (l .free) (omega arith));
         }
 
     on : cells (t .nexts) x ≢ x → On (t .keys) (t .arena) (t .index) x
     on d =
-        let z = listed-bound (leveled t) (s .buckets) (h .carries .slots) (h .carries .lists) x in-lists d in
+        let z = listed-bound (leveled t) (s .buckets) (h .slots) (h .lists) x in-lists d in
         let o = once in
         let g = bound-listed x in
         record {
-          used = used-free (t .arena) (s .free) (l .free) (h .carries .free) x in-arena (omega arith);
-          indexed = h .carries .indexed x .1 (omega arith);
+          used = used-free (t .arena) (s .free) (l .free) (h .free) x in-arena (omega arith);
+          indexed = h .indexed x .1 (omega arith);
         }
 
   pub wanted : Passes t s
   wanted = record {
-    arena-sound = (l .free, h .carries .free);
-    index-sound = h .carries .index-sound;
-    lists-sound = (h .carries .slots, h .carries .lists);
+    arena-sound = (l .free, h .free);
+    index-sound = h .index-sound;
+    lists-sound = (h .slots, h .lists);
     agree = λ x b. record { free = off x b; bound = on x b };
-    count = h .carries .count ∙ bound-used (t .arena) (s .free) l (h .carries .formed) (h .carries .free) (h .carries .sized .arena-size);
-    lowest = h .carries .lowest ∙ ap lowestOf (h .carries .entries) ∙ sym (lowest-levels (t .keys) (t .epochs) (h .carries .slots));
+    count = h .count ∙ bound-used (t .arena) (s .free) l (h .formed) (h .free) (h .sized .arena-size);
+    lowest = h .lowest ∙ ap lowestOf (h .entries) ∙ sym (lowest-levels (t .keys) (t .epochs) (h .slots));
   }

@@ -11,10 +11,10 @@ use Rattle.buckets_tables.specs.Lent.{buckets}
 
 module _ (k f e p n a i b sp : List ℕ) (s : State) (h : Sound buckets (tables k f e p n a i b sp) s) where
   pub indexed : IndexSound i k
-  indexed = h .1 .carries .index-sound
+  indexed = h .1 .index-sound
 
   pub with-freqs : IndexSound i k × (length f ≡ length k)
-  with-freqs = let z = h .1 .carries .sized in (indexed, z .freqs-size ∙ sym (z .keys-size))
+  with-freqs = let z = h .1 .sized in (indexed, z .freqs-size ∙ sym (z .keys-size))
 
   pub with-epochs : IndexSound i k × (length e ≡ length k)
-  with-epochs = let z = h .1 .carries .sized in (indexed, z .epochs-size ∙ sym (z .keys-size))
+  with-epochs = let z = h .1 .sized in (indexed, z .epochs-size ∙ sym (z .keys-size))

@@ -20,7 +20,7 @@ use Rattle.key_index.specs.Index.{IndexSound}
 use Rattle.levels.specs.Levels as levels
 use Rattle.buckets_tables.specs.declared.State.{State}
 use Rattle.buckets_tables.specs.Tables.{Tables}
-use Rattle.buckets_tables.specs.Holds.{lowestOf, Carries}
+use Rattle.buckets_tables.specs.Holds.{lowestOf, Holds}
 use Rattle.buckets_tables.proofs.Found.{Stands, found-at, found-nothing, lowest-nothing}
 use Rattle.buckets_tables.proofs.Doing.{least, stands-x}
 use Rattle.buckets_tables.specs.Lent.{buckets}
@@ -38,11 +38,11 @@ asked g k l = ifFound (lookup k l) (refused Absent, l) (λ y. (done (g y ∷ [])
 module _ (t : Tables) (s : State) (key : ℕ) where
   module _ (absent : index.Finds (t .index) (t .keys) key Nothing) where
     asked-absent : (g : Item → ℕ) → Tells buckets (asked g key) t s (refused Absent)
-    asked-absent g l h = rw (found-nothing t s l (h .carries) key absent)
+    asked-absent g l h = rw (found-nothing t s l h key absent)
 
     pub contains-no : Tells buckets (contains key) t s (done (0 ∷ []))
     unfolding contains
-    contains-no l h = rw (found-nothing t s l (h .carries) key absent)
+    contains-no l h = rw (found-nothing t s l h key absent)
 
     pub frequency-absent : Tells buckets (frequency key) t s (refused Absent)
     unfolding frequency
@@ -53,14 +53,14 @@ module _ (t : Tables) (s : State) (key : ℕ) where
     epoch-absent = asked-absent (λ y. y .epoch)
 
   module _ (x : Slot) (at-x : index.Finds (t .index) (t .keys) key (At x)) where
-    asked-found : (g : Item → ℕ) (n : ℕ) → ((l : Ledger) (h : Carries t s l) (y : Item) → Stands t s l h y (x .0) → n ≡ g y) → Tells buckets (asked g key) t s (done (n ∷ []))
+    asked-found : (g : Item → ℕ) (n : ℕ) → ((l : Ledger) (h : Holds t s l) (y : Item) → Stands t s l h y (x .0) → n ≡ g y) → Tells buckets (asked g key) t s (done (n ∷ []))
     asked-found g n same l h =
-        let w = found-at t s l (h .carries) key x at-x in
-        rw (w .found) (ap (λ (m : ℕ). done (m ∷ [])) (same l (h .carries) (w .item-is) (w .there-is)))
+        let w = found-at t s l h key x at-x in
+        rw (w .found) (ap (λ (m : ℕ). done (m ∷ [])) (same l h (w .item-is) (w .there-is)))
 
     pub contains-yes : Tells buckets (contains key) t s (done (1 ∷ []))
     unfolding contains
-    contains-yes l h = rw (found-at t s l (h .carries) key x at-x .found)
+    contains-yes l h = rw (found-at t s l h key x at-x .found)
 
     pub frequency-found : Tells buckets (frequency key) t s (done (cells (t .freqs) (x .0) ∷ []))
     unfolding frequency
@@ -92,38 +92,38 @@ some-lowest (l ∷ ls) r d = go (l .entries) (r .2)
 module _ (t : Tables) (s : State) where
   pub min-empty : s .lowest ≡ 0 → Tells buckets minFreq t s (refused Empty)
   unfolding minFreq
-  min-empty e l h = rw (none-lowest (l .levels) (h .carries .formed .rising) (sym (h .carries .lowest) ∙ e))
+  min-empty e l h = rw (none-lowest (l .levels) (h .formed .rising) (sym (h .lowest) ∙ e))
 
   pub min-some : s .lowest ≢ 0 → Tells buckets minFreq t s (done (s .lowest ∷ []))
   unfolding minFreq
   min-some d l h =
-      let w = some-lowest (l .levels) (h .carries .formed .rising) (λ q. d (h .carries .lowest ∙ q)) in
-      rw (w .1) (ap (λ (m : ℕ). done (m ∷ [])) (h .carries .lowest ∙ sym (w .2)))
+      let w = some-lowest (l .levels) (h .formed .rising) (λ q. d (h .lowest ∙ q)) in
+      rw (w .1) (ap (λ (m : ℕ). done (m ∷ [])) (h .lowest ∙ sym (w .2)))
 
   -- epoch and count of the state are the ledger's
 
   pub epoch-told : Tells buckets currentEpoch t s (done (s .epoch ∷ []))
   unfolding currentEpoch
-  epoch-told l h = ap (λ (m : ℕ). done (m ∷ [])) (h .carries .epoch)
+  epoch-told l h = ap (λ (m : ℕ). done (m ∷ [])) (h .epoch)
 
   pub len-told : Tells buckets len t s (done (s .count ∷ []))
   unfolding len
-  len-told l h = ap (λ (m : ℕ). done (m ∷ [])) (h .carries .count)
+  len-told l h = ap (λ (m : ℕ). done (m ∷ [])) (h .count)
 
   pub empty-told : Tells buckets isEmpty t s (done (yesNo (eqb (s .count) 0) ∷ []))
   unfolding isEmpty
-  empty-told l h = ap (λ (m : ℕ). done (yesNo (eqb m 0) ∷ [])) (h .carries .count)
+  empty-told l h = ap (λ (m : ℕ). done (yesNo (eqb m 0) ∷ [])) (h .count)
 
 -- The tail of the lowest list
 
-module _ (t : Tables) (s : State) (x : ℕ) (low : (l : Ledger) (h : Carries t s l) → x ≡ levels.lowest (h .slots)) where
+module _ (t : Tables) (s : State) (x : ℕ) (low : (l : Ledger) (h : Holds t s l) → x ≡ levels.lowest (h .slots)) where
   pub peek-empty : x ≡ NONE → Tells buckets peekMin t s (refused Empty)
   unfolding peekMin
-  peek-empty e l h = rw (lowest-nothing t s l (h .carries) (sym (low l (h .carries)) ∙ e))
+  peek-empty e l h = rw (lowest-nothing t s l h (sym (low l h) ∙ e))
 
   pub peek-some : x ≢ NONE → Tells buckets peekMin t s (done (cells (t .keys) x ∷ cells (t .freqs) x ∷ []))
   unfolding peekMin
   peek-some d l h =
-      let w = least t s x low d l (h .carries) in
-      let st = stands-x t s x low d l (h .carries) in
+      let w = least t s x low d l h in
+      let st = stands-x t s x low d l h in
       rw (w .1 .is) (λ i. done (st .key i ∷ st .frequency i ∷ []))

@@ -5,13 +5,12 @@ use mathlib.Core.List.{List}
 use Prim.Native.Nat.{ℕ, _+_, _≤_, _<_, _^_, _-_}
 use native.Mathlib.Omega.{arith}
 use lib.ListN.{length, getD, set, length-set}
-use lib.Seq.{getD-set-other}
 use Rattle.numbers.specs.Frequency.{raised}
 use Rattle.lists.specs.Lists.{In, Without, one}
 use Rattle.lists.proofs.Tests.{one-same}
 use Rattle.lists.proofs.Members.{in-length, in-sum}
 use Rattle.lists.proofs.Maps.{images-all}
-use Rattle.ledger.specs.Ledger.{Ledger, Item, items, putAt, release, move}
+use Rattle.ledger.specs.Ledger.{Ledger, Item, items, put, release, move}
 use Rattle.ledger.proofs.Slots.{free-slot, bound-slot, size-and-free}
 use Rattle.slot_arena.specs.Arena as arena
 use Rattle.slot_arena.specs.declared.Taken.{Taken}
@@ -25,19 +24,19 @@ use Rattle.levels.specs.Calls.{LowestFrequency, SoundWith, SlotBound, LevelTouc
 use Rattle.levels.specs.declared.Touched.{Touched}
 use Rattle.buckets_tables.specs.declared.State.{State}
 use Rattle.buckets_tables.specs.Tables.{Tables, tables, leveled, Sized}
-use Rattle.buckets_tables.specs.Holds.{BoundSlot, Carries}
+use Rattle.buckets_tables.specs.Holds.{BoundSlot, Holds}
 use Rattle.buckets_tables.specs.Calls.{recounted, Room, Binds, BoundIn, Hits, LetsGo, Vacant, EntersIndex, LeavesIndex}
 use Rattle.buckets_tables.proofs.Places.{Place, bound-place, unbound-nowhere, only-there, there, in-there}
-use Rattle.buckets_tables.proofs.Steps.{away, part, free-unbound, put-carries, hit-carries, release-carries, blank-left}
+use Rattle.buckets_tables.proofs.Steps.{free-unbound, put-holds, hit-holds, release-holds}
 
 -- a slot in no list is marked free
-next-own : (t : Tables) (s : State) (l : Ledger) (h : Carries t s l) (x : ℕ) → x < l .capacity → Nowhere x (h .slots) → getD (t .nexts) x 0 ≡ x
+next-own : (t : Tables) (s : State) (l : Ledger) (h : Holds t s l) (x : ℕ) → x < l .capacity → Nowhere x (h .slots) → getD (t .nexts) x 0 ≡ x
 next-own t s l h x b n =
     h .lists .rep .free x (let a = h .sized .freqs-size in omega arith)
     (images-all (λ (m : Line). levels.level (m .row .freq) (m .slots)) (λ (m : levels.Level). Without x (m .slots)) (h .lists .lines) (rw (h .lists .seen) n)) .next-own
 
 -- a count of keys fits
-pub count-fits : (t : Tables) (s : State) (l : Ledger) → Carries t s l → s .count ≤ 4096
+pub count-fits : (t : Tables) (s : State) (l : Ledger) → Holds t s l → s .count ≤ 4096
 count-fits t s l h = let a = size-and-free l (h .formed) in let b = h .count in let c = h .limit in omega arith
 
 -- tables of the lengths that others have
@@ -58,7 +57,7 @@ sized-like t c h k f e p n a i b sp lk lf le lp ln la li lb ls = record {
 
 -- Binding
 
-module _ (t : Tables) (s : State) (key f : ℕ) (r : Room t s key f) where
+module _ (t : Tables) (s : State) (key : ℕ) (r : Room t s key) where
   abbrev l : Ledger
   l = r .ledger
 
@@ -66,84 +65,81 @@ module _ (t : Tables) (s : State) (key f : ℕ) (r : Room t s key f) where
   x = s .free .first
 
   x-below : x < l .capacity
-  x-below = free-slot l (r .carries .formed) x (r .rest) (r .free-is) .0
+  x-below = free-slot l (r .holds .formed) x (r .rest) (r .free-is) .0
+
+  x-unbound : BoundSlot l x → ⊥
+  x-unbound = free-unbound t s l (r .holds) key x (r .rest) (r .absent) (r .free-is)
 
   pub room-first : x < length (t .arena)
-  room-first = let a = r .carries .sized .arena-size in let b = x-below in omega arith
+  room-first = let a = r .holds .sized .arena-size in let b = x-below in omega arith
 
   pub room-vacant : (y : ℕ) → y ≡ x → Vacant (t .keys) (t .epochs) (t .index) y
   room-vacant y e = rw e (record {
-    index-sound = r .carries .index-sound;
-    slot = let a = r .carries .sized .keys-size in let b = r .carries .sized .epochs-size in let c = x-below in (omega arith, omega arith);
-    out = λ has. free-unbound t s l (r .carries) f key x (r .rest) (r .level .0) (r .level .1) (r .absent) (r .free-is) (r .carries .indexed x .0 has);
+    index-sound = r .holds .index-sound;
+    slot = let a = r .holds .sized .keys-size in let b = r .holds .sized .epochs-size in let c = x-below in (omega arith, omega arith);
+    out = λ has. x-unbound (r .holds .indexed x .0 has);
   })
 
   pub room-binding : (y : ℕ) → y ≡ x → asks.Binding (leveled t) (s .buckets) y
   room-binding y e = rw e (record {
-    sound = (r .carries .slots, r .carries .lists);
-    slot = let a = r .carries .sized .freqs-size in let b = x-below in omega arith;
-    next-own =
-        next-own t s l (r .carries) x x-below
-        (unbound-nowhere t s l (r .carries) x (free-unbound t s l (r .carries) f key x (r .rest) (r .level .0) (r .level .1) (r .absent) (r .free-is)));
+    sound = (r .holds .slots, r .holds .lists);
+    slot = let a = r .holds .sized .freqs-size in let b = x-below in omega arith;
+    next-own = next-own t s l (r .holds) x x-below (unbound-nowhere t s l (r .holds) x x-unbound);
   })
 
   pub room-count : s .count + 1 < 2 ^ 64
-  room-count = let a = count-fits t s l (r .carries) in omega arith
+  room-count = let a = count-fits t s l (r .holds) in omega arith
 
   -- the lists after it are sound
-  pub room-lists : (y : ℕ) → y ≡ x → (f' p' n' b' sp' : List ℕ) (bk : Buckets) → LevelBinds (leveled t) (s .buckets) y f (tabs f' p' n' b' sp') bk → SoundWith b' bk
-  room-lists y e f' p' n' b' sp' bk binds =
-      let h = r .carries in
-      let q = part (t .keys) (t .epochs) 0 f (h .slots) (rw (h .entries) at (h .formed .rising)) in
-      (f', p', n', sp', (_, binds .holds (q .lower) (q .upper) (r .level .0) (q .below) (q .from) (subst (Held (leveled t) (s .buckets)) (q .is) (h .lists))))
+  pub room-lists : (y : ℕ) (f' p' n' b' sp' : List ℕ) (bk : Buckets) → LevelBinds (leveled t) (s .buckets) y (tabs f' p' n' b' sp') bk → SoundWith b' bk
+  room-lists y f' p' n' b' sp' bk binds = (f', p', n', sp', (_, binds .holds (r .holds .slots) (r .holds .lists)))
 
   module _ (k' e' i' : List ℕ) (a' : List ℕ) (took : Taken) (takes : arena.Takes (t .arena) (s .free) a' took)
       (enters : EntersIndex (t .keys) (t .epochs) (t .index) (took .slot .0) key (s .epoch) k' e' i') (f' p' n' b' sp' : List ℕ) (bk : Buckets)
-      (binds : LevelBinds (leveled t) (s .buckets) (took .slot .0) f (tabs f' p' n' b' sp') bk) (low : ℕ) (reads : LowestFrequency b' bk low)
+      (binds : LevelBinds (leveled t) (s .buckets) (took .slot .0) (tabs f' p' n' b' sp') bk) (low : ℕ) (reads : LowestFrequency b' bk low)
       (sized : Sized (tables k' f' e' p' n' a' i' b' sp') (l .capacity)) (s' : State) (after : s' ≡ recounted s (s .count + 1) low (took .order) bk) where
-    pub bound-so : Binds t s key f (tables k' f' e' p' n' a' i' b' sp') (record { slot = took .slot; state = s' })
+    pub bound-so : Binds t s key (tables k' f' e' p' n' a' i' b' sp') (record { slot = took .slot; state = s' })
     bound-so = record {
       slot = takes .slot;
-      carries = λ m rest h none′ free-is lo hi.
+      holds = λ m rest h none′ free-is.
           let en = subst (λ (y : ℕ). EntersIndex (t .keys) (t .epochs) (t .index) y key (s .epoch) k' e' i') (takes .slot) enters in
-          let bi = subst (λ (y : ℕ). LevelBinds (leveled t) (s .buckets) y f (tabs f' p' n' b' sp') bk) (takes .slot) binds in
-          let c : m .capacity ≡ l .capacity = sym (h .capacity) ∙ r .carries .capacity in
-          subst (λ z. Carries (tables k' f' e' p' n' a' i' b' sp') z (putAt f key x rest m)) (sym after)
-          (put-carries t s m h f key x rest lo hi none′ free-is k' e' i' en a' took takes f' p' n' b' sp' bk bi low reads (rw c sized));
-      others = λ y d. rw (enters .keys-are, enters .epochs-are) (away (t .keys) (t .epochs) (took .slot .0) key (s .epoch) y (λ q. d (q ∙ takes .slot)));
+          let bi = subst (λ (y : ℕ). LevelBinds (leveled t) (s .buckets) y (tabs f' p' n' b' sp') bk) (takes .slot) binds in
+          let c : m .capacity ≡ l .capacity = sym (h .capacity) ∙ r .holds .capacity in
+          subst (λ z. Holds (tables k' f' e' p' n' a' i' b' sp') z (put key x rest m)) (sym after)
+          (put-holds t s m h key x rest none′ free-is k' e' i' en a' took takes f' p' n' b' sp' bk bi low reads (rw c sized));
     }
 
 -- A bound slot
 
 module _ (t : Tables) (s : State) (x : ℕ) (r : BoundIn t s x) where
-  abbrev pl : Place (r .carries .slots) x
-  pl = bound-place t s (r .ledger) (r .carries) x (r .bound)
+  abbrev pl : Place (r .holds .slots) x
+  pl = bound-place t s (r .ledger) (r .holds) x (r .bound)
 
   pub slot-below : x < r .ledger .capacity
-  slot-below = bound-slot (r .ledger) (r .carries .formed) (there t s (r .ledger) (r .carries) x pl) (in-there t s (r .ledger) (r .carries) x pl) .0
+  slot-below = bound-slot (r .ledger) (r .holds .formed) (there t s (r .ledger) (r .holds) x pl) (in-there t s (r .ledger) (r .holds) x pl) .0
 
   pub slot-in-lists : SlotBound (leveled t) (s .buckets) x
   slot-in-lists =
-      record { us = pl .us; freq = pl .freq; xs = pl .xs; ys = pl .ys; vs = pl .vs; held = subst (Held (leveled t) (s .buckets)) (pl .is) (r .carries .lists) }
+      record { us = pl .us; freq = pl .freq; xs = pl .xs; ys = pl .ys; vs = pl .vs; held = subst (Held (leveled t) (s .buckets)) (pl .is) (r .holds .lists) }
 
   pub slot-sized : (x < length (t .keys)) × (x < length (t .epochs)) × (x < length (t .arena)) × (x < length (t .freqs))
   slot-sized =
       let a = slot-below in
-      let b = r .carries .sized .keys-size in
-      let c = r .carries .sized .epochs-size in
-      let d = r .carries .sized .arena-size in
-      let f = r .carries .sized .freqs-size in
+      let b = r .holds .sized .keys-size in
+      let c = r .holds .sized .epochs-size in
+      let d = r .holds .sized .arena-size in
+      let f = r .holds .sized .freqs-size in
       (omega arith, omega arith, omega arith, omega arith)
 
   -- the slot's number is small enough for a place in memory
   pub slot-limit : x < 4096
-  slot-limit = let a = slot-below in let b = r .carries .limit in omega arith
+  slot-limit = let a = slot-below in let b = r .holds .limit in omega arith
 
   -- some key is bound
   pub count-some : 1 ≤ s .count
   count-some =
-      let a = in-length (there t s (r .ledger) (r .carries) x pl) (items (r .ledger .levels)) (in-there t s (r .ledger) (r .carries) x pl) in
-      let b = r .carries .count in
+      let a = in-length (there t s (r .ledger) (r .holds) x pl) (items (r .ledger .levels)) (in-there t s (r .ledger) (r .holds) x pl) in
+      let b = r .holds .count in
       omega arith
 
   pub hit-lists-sound : (cap : ℕ) (f' p' n' b' sp' : List ℕ) (o : Touched) → LevelTouches (leveled t) (s .buckets) x cap (tabs f' p' n' b' sp') o → SoundWith b' (o .state)
@@ -153,7 +149,7 @@ module _ (t : Tables) (s : State) (x : ℕ) (r : BoundIn t s x) where
   left-lists-sound f' p' n' b' sp' bk unbinds = (f', p', n', sp', (_, unbinds .holds (slot-in-lists .us) (slot-in-lists .freq) (slot-in-lists .xs) (slot-in-lists .ys) (slot-in-lists .vs) (slot-in-lists .held)))
 
 -- every item in the slot is the one at its place
-at-place : (t : Tables) (s : State) (l : Ledger) (h : Carries t s l) (x : ℕ) (y : Item) → In y (items (l .levels)) → y .slot ≡ x →
+at-place : (t : Tables) (s : State) (l : Ledger) (h : Holds t s l) (x : ℕ) (y : Item) → In y (items (l .levels)) → y .slot ≡ x →
     (p : Place (h .slots) x) × (y ≡ there t s l h x p)
 at-place t s l h x y i q =
     let b : BoundSlot l x = (let c = in-sum (λ (z : Item). one (z .slot) x) (items (l .levels)) y i in omega (arith, one-same (y .slot) x q)) in
@@ -170,13 +166,12 @@ hit-so f e p n b sp s x cap f' p' n' b' sp' o e' low s' touches epochs-are reads
       let t = tables k f e p n a i b sp in
       let w = at-place t s l h x y j q in
       rw (w .1) (touches k a i .answer (w .0 .us) (w .0 .freq) (w .0 .xs) (w .0 .ys) (w .0 .vs) (subst (Held (leveled t) (s .buckets)) (w .0 .is) (h .lists)));
-  carries = λ k a i l y h j q fits.
+  holds = λ k a i l y h j q fits.
       let t = tables k f e p n a i b sp in
       let w = at-place t s l h x y j q in
       let sized = sized-like t (l .capacity) (h .sized) k f' e' p' n' a i b' sp' refl lf (ap (λ u. length u) epochs-are ∙ length-set e x (s .epoch)) lp ln refl refl lb ls in
-      rw (w .1) (subst (λ z. Carries (tables k f' e' p' n' a i b' sp') z (move (there t s l h x (w .0)) (raised cap (w .0 .freq)) l)) (sym after)
-      (hit-carries t s l h x (w .0) cap fits f' p' n' b' sp' o (touches k a i) e' epochs-are low reads sized));
-  others = λ y d. rw epochs-are (getD-set-other e x y (s .epoch) 0 d);
+      rw (w .1) (subst (λ z. Holds (tables k f' e' p' n' a i b' sp') z (move (there t s l h x (w .0)) (raised cap (w .0 .freq)) l)) (sym after)
+      (hit-holds t s l h x (w .0) cap fits f' p' n' b' sp' o (touches k a i) e' epochs-are low reads sized));
 }
 
 pub gone-so : (t : Tables) (s : State) (x : ℕ) (k' e' i' : List ℕ) (f' p' n' b' sp' : List ℕ) (bk : Buckets) (a' : List ℕ) (o' : Order) (low : ℕ) (s' : State) →
@@ -184,12 +179,8 @@ pub gone-so : (t : Tables) (s : State) (x : ℕ) (k' e' i' : List ℕ) (f' p' n'
     LowestFrequency b' bk low → s' ≡ recounted s (s .count - 1) low o' bk → ((c : ℕ) → Sized t c → Sized (tables k' f' e' p' n' a' i' b' sp') c) →
     LetsGo t s x (tables k' f' e' p' n' a' i' b' sp') s'
 gone-so t s x k' e' i' f' p' n' b' sp' bk a' o' low s' leaves unbinds releases reads after sized = record {
-  carries = λ l y h j q.
+  holds = λ l y h j q.
       let w = at-place t s l h x y j q in
-      rw (w .1) (subst (λ z. Carries (tables k' f' e' p' n' a' i' b' sp') z (release (there t s l h x (w .0)) l)) (sym after)
-      (release-carries t s l h x (w .0) k' e' i' leaves f' p' n' b' sp' bk unbinds a' o' releases low reads (sized (l .capacity) (h .sized))));
-  blank = λ l y h j q.
-      let w = at-place t s l h x y j q in
-      blank-left t s l h x (w .0) k' e' i' leaves f' p' n' b' sp' bk unbinds a' o' releases low reads (sized (l .capacity) (h .sized));
-  others = λ y d. rw (leaves .keys-are, leaves .epochs-are) (away (t .keys) (t .epochs) x 0 0 y d);
+      rw (w .1) (subst (λ z. Holds (tables k' f' e' p' n' a' i' b' sp') z (release (there t s l h x (w .0)) l)) (sym after)
+      (release-holds t s l h x (w .0) k' e' i' leaves f' p' n' b' sp' bk unbinds a' o' releases low reads (sized (l .capacity) (h .sized))));
 }

@@ -27,7 +27,7 @@ use Rattle.levels.specs.Levels as levels
 use Rattle.levels.specs.Held.{Line, LineHeld, Free, Held}
 use Rattle.buckets_tables.specs.declared.State.{State}
 use Rattle.buckets_tables.specs.Tables.{Tables, leveled}
-use Rattle.buckets_tables.specs.Holds.{entryAt, entriesAt, levelsAt, BoundSlot, Carries, Blank, Holds}
+use Rattle.buckets_tables.specs.Holds.{entryAt, entriesAt, levelsAt, BoundSlot, Blank, Holds}
 use Rattle.buckets_tables.proofs.Places.{bound-place, unbound-nowhere, there, in-there}
 use Rattle.buckets_tables.proofs.Found.{stands}
 
@@ -108,13 +108,13 @@ linked-agree p n q m l b h k =
 -- Slot by slot
 
 module _ (t t' : Tables) (s s' : State) (l : Ledger) (h : Holds t s l) (k : Holds t' s' l) where
-  same-slots : k .carries .slots ≡ h .carries .slots
-  same-slots = levels-slots (t' .keys) (t' .epochs) (t .keys) (t .epochs) (k .carries .slots) (h .carries .slots) (sym (k .carries .entries) ∙ h .carries .entries)
+  same-slots : k .slots ≡ h .slots
+  same-slots = levels-slots (t' .keys) (t' .epochs) (t .keys) (t .epochs) (k .slots) (h .slots) (sym (k .entries) ∙ h .entries)
 
   -- a slot is bound or free
   bound-or-free : (i : ℕ) → i < l .capacity → BoundSlot l i ⊎ In i (l .free)
   bound-or-free i b =
-      let w = h .carries .formed .slots i in
+      let w = h .formed .slots i in
       let y = below-yes i (l .capacity) b in
       by-eq (times i (l .free)) 0 (λ z. inl (omega arith)) (λ z. inr (times-in i (l .free) (omega arith)))
 
@@ -125,20 +125,20 @@ module _ (t t' : Tables) (s s' : State) (l : Ledger) (h : Holds t s l) (k : Hold
     pub prev-same : cells (t .prevs) i ≡ cells (t' .prevs) i
     pub next-same : cells (t .nexts) i ≡ cells (t' .nexts) i
 
-  links-same : All (λ (m : levels.Level). All (λ x. (cells (t .nexts) x ≡ cells (t' .nexts) x) × (cells (t .prevs) x ≡ cells (t' .prevs) x)) (m .slots)) (h .carries .slots)
+  links-same : All (λ (m : levels.Level). All (λ x. (cells (t .nexts) x ≡ cells (t' .nexts) x) × (cells (t .prevs) x ≡ cells (t' .prevs) x)) (m .slots)) (h .slots)
   links-same =
-      let small : length (t .prevs) ≤ NONE = (let a = h .carries .sized .prevs-size in let b = h .carries .limit in omega arith) in
+      let small : length (t .prevs) ≤ NONE = (let a = h .sized .prevs-size in let b = h .limit in omega arith) in
       all-both (Linked (t .prevs) (t .nexts)) (Linked (t' .prevs) (t' .nexts))
       (λ (m : levels.Level). All (λ x. (cells (t .nexts) x ≡ cells (t' .nexts) x) × (cells (t .prevs) x ≡ cells (t' .prevs) x)) (m .slots))
-      (λ m a b. linked-agree (t .prevs) (t .nexts) (t' .prevs) (t' .nexts) m small a b) (h .carries .slots)
-      (all-linked t s (h .carries .slots) (h .carries .lists)) (rw same-slots at (all-linked t' s' (k .carries .slots) (k .carries .lists)))
+      (λ m a b. linked-agree (t .prevs) (t .nexts) (t' .prevs) (t' .nexts) m small a b) (h .slots)
+      (all-linked t s (h .slots) (h .lists)) (rw same-slots at (all-linked t' s' (k .slots) (k .lists)))
 
   bound-alike : (i : ℕ) → BoundSlot l i → Alike i
   bound-alike i b =
-      let p = bound-place t s l (h .carries) i b in
-      let y = there t s l (h .carries) i p in
-      let d = stands t s l (h .carries) y (in-there t s l (h .carries) i p) in
-      let d' = stands t' s' l (k .carries) y (in-there t s l (h .carries) i p) in
+      let p = bound-place t s l h i b in
+      let y = there t s l h i p in
+      let d = stands t s l h y (in-there t s l h i p) in
+      let d' = stands t' s' l k y (in-there t s l h i p) in
       let n =
       all-mid (λ x. (cells (t .nexts) x ≡ cells (t' .nexts) x) × (cells (t .prevs) x ≡ cells (t' .prevs) x)) (p .xs) i (p .ys)
       (all-mid (λ (m : levels.Level). All (λ x. (cells (t .nexts) x ≡ cells (t' .nexts) x) × (cells (t .prevs) x ≡ cells (t' .prevs) x)) (m .slots)) (p .us) (levels.level (p .freq) (p .xs ++ i ∷ p .ys)) (p .vs)
@@ -152,7 +152,7 @@ module _ (t t' : Tables) (s s' : State) (l : Ledger) (h : Holds t s l) (k : Hold
       }
 
 -- a free slot's links are its own number, and its frequency is 0
-free-cells : (t : Tables) (s : State) (l : Ledger) (h : Carries t s l) (i : ℕ) → In i (l .free) → Free (t .freqs) (t .prevs) (t .nexts) i
+free-cells : (t : Tables) (s : State) (l : Ledger) (h : Holds t s l) (i : ℕ) → In i (l .free) → Free (t .freqs) (t .prevs) (t .nexts) i
 free-cells t s l h i f =
     let w = h .formed .slots i in
     let c = in-times i (l .free) f in
@@ -181,8 +181,8 @@ module _ (t t' : Tables) (s s' : State) (l : Ledger) (h : Holds t s l) (k : Hold
   free-alike i f =
       let z = all-in (Blank (t .keys) (t .epochs)) (l .free) i (h .zeros) f in
       let z' = all-in (Blank (t' .keys) (t' .epochs)) (l .free) i (k .zeros) f in
-      let c = free-cells t s l (h .carries) i f in
-      let c' = free-cells t' s' l (k .carries) i f in
+      let c = free-cells t s l h i f in
+      let c' = free-cells t' s' l k i f in
       record {
         key-same = z .0 ∙ sym (z' .0);
         freq-same = c .freq-zero ∙ sym (c' .freq-zero);
@@ -199,9 +199,9 @@ module _ (t t' : Tables) (s s' : State) (l : Ledger) (h : Holds t s l) (k : Hold
 
   pub determined : Same t t' s s'
   determined =
-      let a = h .carries .sized in
-      let b = k .carries .sized in
-      let o = arena-one (t .arena) (t' .arena) (s .free) (s' .free) (l .free) (a .arena-size ∙ sym (b .arena-size)) (h .carries .free) (k .carries .free) in
+      let a = h .sized in
+      let b = k .sized in
+      let o = arena-one (t .arena) (t' .arena) (s .free) (s' .free) (l .free) (a .arena-size ∙ sym (b .arena-size)) (h .free) (k .free) in
       record {
         keys = table-same (t .keys) (t' .keys) (a .keys-size) (b .keys-size) (λ i c. alike i c .key-same);
         freqs = table-same (t .freqs) (t' .freqs) (a .freqs-size) (b .freqs-size) (λ i c. alike i c .freq-same);
@@ -209,9 +209,9 @@ module _ (t t' : Tables) (s s' : State) (l : Ledger) (h : Holds t s l) (k : Hold
         prevs = table-same (t .prevs) (t' .prevs) (a .prevs-size) (b .prevs-size) (λ i c. alike i c .prev-same);
         nexts = table-same (t .nexts) (t' .nexts) (a .nexts-size) (b .nexts-size) (λ i c. alike i c .next-same);
         arena = o .0;
-        capacity = h .carries .capacity ∙ sym (k .carries .capacity);
-        count = h .carries .count ∙ sym (k .carries .count);
-        lowest = h .carries .lowest ∙ sym (k .carries .lowest);
-        epoch = h .carries .epoch ∙ sym (k .carries .epoch);
+        capacity = h .capacity ∙ sym (k .capacity);
+        count = h .count ∙ sym (k .count);
+        lowest = h .lowest ∙ sym (k .lowest);
+        epoch = h .epoch ∙ sym (k .epoch);
         free = o .1;
       }

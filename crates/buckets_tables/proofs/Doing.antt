@@ -1,8 +1,7 @@
 -- Each call on sound tables does what the ledger's function does: by what was found, and by what binding, hitting and letting go
--- promise. A call that refuses leaves everything, a call that is done keeps free slots blank.
+-- promise. A call that refuses leaves everything.
 use mathlib.Core.Path.{_≡_, refl, sym, ap, _∙_, subst}
 use mathlib.Core.Logic.{_≢_}
-use mathlib.Core.Option.{none}
 use mathlib.Core.List.{List, [], _∷_}
 use Prim.Native.Nat.{ℕ, _≤_}
 use native.Mathlib.Omega.{arith}
@@ -11,12 +10,11 @@ use Rattle.numbers.specs.Frequency.{CEILING, capOf}
 use Rattle.numbers.specs.declared.Answer.{Answer}
 use Rattle.numbers.specs.declared.Answer.the-variants.{Absent, Present, Full, Empty}
 use Rattle.numbers.specs.declared.Slot.{Slot}
-use Rattle.lists.specs.Lists.{All, Without, one, times}
+use Rattle.lists.specs.Lists.{one}
 use Rattle.lists.proofs.Tests.{one-same}
-use Rattle.lists.proofs.Members.{all-both, in-sum, times-without}
-use Rattle.ledger.specs.Ledger.{Ledger, Item, items, lookup, putAt, release}
+use Rattle.lists.proofs.Members.{in-sum}
+use Rattle.ledger.specs.Ledger.{Ledger, Item, items}
 use Rattle.ledger.specs.Buckets.{done, refused, Outcome, insert, touch, remove, popMin}
-use Rattle.ledger.proofs.Slots.{bound-slot, free-slot}
 use Rattle.ledger.proofs.Refusals.{done-refused}
 use Rattle.promise.specs.Promise.{Does, Sound}
 use Rattle.links.specs.Chain.{cells}
@@ -29,7 +27,7 @@ use Rattle.buckets_tables.specs.declared.State.{State}
 use Rattle.buckets_tables.specs.declared.Placed.{Placed}
 use Rattle.buckets_tables.specs.declared.Hit.{Hit}
 use Rattle.buckets_tables.specs.Tables.{Tables, tables}
-use Rattle.buckets_tables.specs.Holds.{SameCells, Carries, Blank, Holds}
+use Rattle.buckets_tables.specs.Holds.{Holds}
 use Rattle.buckets_tables.specs.Calls.{Room, Binds, BoundIn, Hits, LetsGo}
 use Rattle.buckets_tables.proofs.Found.{Stands, found-at, found-nothing, Least, lowest-nothing, lowest-some}
 use Rattle.buckets_tables.specs.Lent.{buckets}
@@ -47,80 +45,63 @@ pub does-done : (f : Ledger → Outcome) (t : Tables) (s : State) (ns : List ℕ
     ((l : Ledger) → Holds t s l → done ns ≡ f l .0) → ((l : Ledger) → Holds t s l → Holds t' s' (f l .1)) → Does buckets f t s (done ns) t' s'
 does-done f t s ns t' s' h k l w = record { answer = h l w; holds = k l w; leaves = λ b e. done-refused ns b e }
 
--- slots other than x stay blank
-pub still-blank : (t t' : Tables) (x : ℕ) (xs : List ℕ) → ((y : ℕ) → y ≢ x → SameCells (t .keys) (t .epochs) (t' .keys) (t' .epochs) y) → Without x xs →
-    All (Blank (t .keys) (t .epochs)) xs → All (Blank (t' .keys) (t' .epochs)) xs
-still-blank t t' x xs same w z =
-    all-both (λ y. y ≢ x) (Blank (t .keys) (t .epochs)) (Blank (t' .keys) (t' .epochs)) (λ y d b. (same y d .0 ∙ b .0, same y d .1 ∙ b .1)) xs w z
-
 -- a free order that does not begin with NONE begins with its first slot
-pub free-some : (t : Tables) (s : State) (l : Ledger) → Carries t s l → s .free .first ≢ NONE → (rest : List ℕ) × (l .free ≡ s .free .first ∷ rest)
+pub free-some : (t : Tables) (s : State) (l : Ledger) → Holds t s l → s .free .first ≢ NONE → (rest : List ℕ) × (l .free ≡ s .free .first ∷ rest)
 free-some t s l h d = go (l .free) (h .free)
   where
     go : (free : List ℕ) → ArenaHolds (t .arena) (s .free) free → (rest : List ℕ) × (free ≡ s .free .first ∷ rest)
     go [] w = absurd (d (first-none (t .arena) (s .free) [] w .0 refl))
     go (x ∷ rest) w = (rest, λ i. sym (first-slot (t .arena) (s .free) x rest w .0) i ∷ rest)
 
--- what the tables hold after a key is bound
-pub bind-holds : (t : Tables) (s : State) (key f : ℕ) (t' : Tables) (r : Placed) → Binds t s key f t' r → (l : Ledger) (h : Holds t s l) (rest : List ℕ) →
-    lookup key l ≡ none → l .free ≡ s .free .first ∷ rest → 1 ≤ f → f ≤ CEILING → Holds t' (r .state) (putAt f key (s .free .first) rest l)
-bind-holds t s key f t' r binds l h rest absent free-is lo hi =
-    let w = free-slot l (h .carries .formed) (s .free .first) rest free-is .1 in
-    record {
-      carries = binds .carries l rest (h .carries) absent free-is lo hi;
-      zeros = still-blank t t' (s .free .first) rest (binds .others) (times-without (s .free .first) rest w) ((rw free-is at (h .zeros)) .1);
-    }
-
 -- `insert`
 
 module _ (t : Tables) (s : State) (key : ℕ) where
   pub insert-present : (x : Slot) → index.Finds (t .index) (t .keys) key (At x) → Does buckets (insert key) t s (refused Present) t s
   unfolding insert
-  insert-present x f = does-refuse (insert key) t s Present (λ l h. rw (found-at t s l (h .carries) key x f .found))
+  insert-present x f = does-refuse (insert key) t s Present (λ l h. rw (found-at t s l h key x f .found))
 
   module _ (absent : index.Finds (t .index) (t .keys) key Nothing) where
     pub insert-full : s .free .first ≡ NONE → Does buckets (insert key) t s (refused Full) t s
     unfolding insert
     insert-full e =
         does-refuse (insert key) t s Full
-        (λ l h. rw (found-nothing t s l (h .carries) key absent, first-none (t .arena) (s .free) (l .free) (h .carries .free) .1 e))
+        (λ l h. rw (found-nothing t s l h key absent, first-none (t .arena) (s .free) (l .free) (h .free) .1 e))
 
     -- there is a slot for the key
-    pub insert-room : Sound buckets t s → s .free .first ≢ NONE → Room t s key 1
+    pub insert-room : Sound buckets t s → s .free .first ≢ NONE → Room t s key
     insert-room w d =
-        let f = free-some t s (w .0) (w .1 .carries) d in
+        let f = free-some t s (w .0) (w .1) d in
         record {
-          level = (omega arith, omega arith);
           ledger = w .0;
           rest = f .0;
-          carries = w .1 .carries;
-          absent = found-nothing t s (w .0) (w .1 .carries) key absent;
+          holds = w .1;
+          absent = found-nothing t s (w .0) (w .1) key absent;
           free-is = f .1;
         }
 
-    pub insert-done : s .free .first ≢ NONE → (t' : Tables) (r : Placed) → Binds t s key 1 t' r → Does buckets (insert key) t s (done []) t' (r .state)
+    pub insert-done : s .free .first ≢ NONE → (t' : Tables) (r : Placed) → Binds t s key t' r → Does buckets (insert key) t s (done []) t' (r .state)
     unfolding insert
     insert-done d t' r binds =
         does-done (insert key) t s [] t' (r .state)
         (λ l h.
-        let f = free-some t s l (h .carries) d in
-        rw (found-nothing t s l (h .carries) key absent, f .1))
+        let f = free-some t s l h d in
+        rw (found-nothing t s l h key absent, f .1))
         (λ l h.
-        let f = free-some t s l (h .carries) d in
-        let e = found-nothing t s l (h .carries) key absent in
-        rw (e, f .1) (bind-holds t s key 1 t' r binds l h (f .0) e (f .1) (omega arith) (omega arith)))
+        let f = free-some t s l h d in
+        let e = found-nothing t s l h key absent in
+        rw (e, f .1) (binds .holds l (f .0) h e (f .1)))
 
 -- A bound key
 
 -- its slot is bound
 pub found-bound : (t : Tables) (s : State) (key : ℕ) (x : Slot) → Sound buckets t s → index.Finds (t .index) (t .keys) key (At x) → BoundIn t s (x .0)
-found-bound t s key x w f = record { ledger = w .0; carries = w .1 .carries; bound = w .1 .carries .indexed (x .0) .0 (f .0) }
+found-bound t s key x w f = record { ledger = w .0; holds = w .1; bound = w .1 .indexed (x .0) .0 (f .0) }
 
 -- `touch`, up to a cap
 
 pub touch-absent : (t : Tables) (s : State) (cap key : ℕ) → index.Finds (t .index) (t .keys) key Nothing → Does buckets (touch cap key) t s (refused Absent) t s
 unfolding touch
-touch-absent t s cap key f = does-refuse (touch cap key) t s Absent (λ l h. rw (found-nothing t s l (h .carries) key f))
+touch-absent t s cap key f = does-refuse (touch cap key) t s Absent (λ l h. rw (found-nothing t s l h key f))
 
 pub touch-done : (k f e p n a i b sp : List ℕ) (s : State) (cap top key : ℕ) (x : Slot) → top ≡ capOf cap → top ≤ CEILING → index.Finds i k key (At x) →
     (f' e' p' n' b' sp' : List ℕ) (r : Hit) → Hits f e p n b sp s (x .0) top f' e' p' n' b' sp' r →
@@ -133,36 +114,17 @@ touch-done k f e p n a i b sp s cap top key x is-cap low at-x f' e' p' n' b' sp'
     let t' = tables k f' e' p' n' a i b' sp' in
     does-done (touch cap key) t s (r .frequency .0 ∷ []) t' (r .state)
     (λ l h.
-    let w = found-at t s l (h .carries) key x at-x in
-    rw (w .found) (ap (λ (m : ℕ). done (m ∷ [])) (hits .answer k a i l (w .item-is) (h .carries) (w .there-is .inside) (w .there-is .slot))))
+    let w = found-at t s l h key x at-x in
+    rw (w .found) (ap (λ (m : ℕ). done (m ∷ [])) (hits .answer k a i l (w .item-is) h (w .there-is .inside) (w .there-is .slot))))
     (λ l h.
-    let w = found-at t s l (h .carries) key x at-x in
-    let out = bound-slot l (h .carries .formed) (w .item-is) (w .there-is .inside) .1 in
-    rw (w .found) (record {
-      carries = hits .carries k a i l (w .item-is) (h .carries) (w .there-is .inside) (w .there-is .slot) fits;
-      zeros =
-          still-blank t t' (x .0) (l .free) (λ y d. (refl, hits .others y d))
-          (times-without (x .0) (l .free) (ap (λ (m : ℕ). times m (l .free)) (sym (w .there-is .slot)) ∙ out)) (h .zeros);
-    }))
+    let w = found-at t s l h key x at-x in
+    rw (w .found) (hits .holds k a i l (w .item-is) h (w .there-is .inside) (w .there-is .slot) fits))
 
 -- `remove` and `pop_min`
 
--- what the tables hold after an item is let go
-pub let-go : (t : Tables) (s : State) (x : ℕ) (t' : Tables) (s' : State) → LetsGo t s x t' s' → (l : Ledger) (h : Holds t s l) (y : Item) → Stands t s l (h .carries) y x →
-    Holds t' s' (release y l)
-let-go t s x t' s' gone l h y st =
-    let out = bound-slot l (h .carries .formed) y (st .inside) .1 in
-    record {
-      carries = gone .carries l y (h .carries) (st .inside) (st .slot);
-      zeros = (
-        subst (Blank (t' .keys) (t' .epochs)) (sym (st .slot)) (gone .blank l y (h .carries) (st .inside) (st .slot)),
-        still-blank t t' x (l .free) (gone .others) (times-without x (l .free) (ap (λ (m : ℕ). times m (l .free)) (sym (st .slot)) ∙ out)) (h .zeros),
-      );
-    }
-
 pub remove-absent : (t : Tables) (s : State) (key : ℕ) → index.Finds (t .index) (t .keys) key Nothing → Does buckets (remove key) t s (refused Absent) t s
 unfolding remove
-remove-absent t s key f = does-refuse (remove key) t s Absent (λ l h. rw (found-nothing t s l (h .carries) key f))
+remove-absent t s key f = does-refuse (remove key) t s Absent (λ l h. rw (found-nothing t s l h key f))
 
 pub remove-done : (t : Tables) (s : State) (key : ℕ) (x : Slot) (f : ℕ) → index.Finds (t .index) (t .keys) key (At x) → f ≡ cells (t .freqs) (x .0) →
     (t' : Tables) (s' : State) → LetsGo t s (x .0) t' s' → Does buckets (remove key) t s (done (f ∷ [])) t' s'
@@ -170,30 +132,30 @@ unfolding remove
 remove-done t s key x f at-x e t' s' gone =
     does-done (remove key) t s (f ∷ []) t' s'
     (λ l h.
-    let w = found-at t s l (h .carries) key x at-x in
+    let w = found-at t s l h key x at-x in
     rw (w .found) (ap (λ (m : ℕ). done (m ∷ [])) (e ∙ w .there-is .frequency)))
-    (λ l h. let w = found-at t s l (h .carries) key x at-x in rw (w .found) (let-go t s (x .0) t' s' gone l h (w .item-is) (w .there-is)))
+    (λ l h. let w = found-at t s l h key x at-x in rw (w .found) (gone .holds l (w .item-is) h (w .there-is .inside) (w .there-is .slot)))
 
-module _ (t : Tables) (s : State) (x : ℕ) (low : (l : Ledger) (h : Carries t s l) → x ≡ levels.lowest (h .slots)) where
+module _ (t : Tables) (s : State) (x : ℕ) (low : (l : Ledger) (h : Holds t s l) → x ≡ levels.lowest (h .slots)) where
   pub pop-empty : x ≡ NONE → Does buckets popMin t s (refused Empty) t s
   unfolding popMin
-  pop-empty e = does-refuse popMin t s Empty (λ l h. rw (lowest-nothing t s l (h .carries) (sym (low l (h .carries)) ∙ e)))
+  pop-empty e = does-refuse popMin t s Empty (λ l h. rw (lowest-nothing t s l h (sym (low l h) ∙ e)))
 
   module _ (some-is : x ≢ NONE) where
-    pub least : (l : Ledger) (h : Carries t s l) → (y : Item) × Least t s l h y
+    pub least : (l : Ledger) (h : Holds t s l) → (y : Item) × Least t s l h y
     least l h = lowest-some t s l h (λ q. some-is (low l h ∙ q))
 
-    pub stands-x : (l : Ledger) (h : Carries t s l) → Stands t s l h (least l h .0) x
+    pub stands-x : (l : Ledger) (h : Holds t s l) → Stands t s l h (least l h .0) x
     stands-x l h = subst (Stands t s l h (least l h .0)) (sym (low l h)) (least l h .1 .there-is)
 
     pub pop-bound : Sound buckets t s → BoundIn t s x
     pop-bound w =
         let l = w .0 in
-        let h = w .1 .carries in
+        let h = w .1 in
         let st = stands-x l h in
         record {
           ledger = l;
-          carries = h;
+          holds = h;
           bound = let c = in-sum (λ (z : Item). one (z .slot) x) (items (l .levels)) (least l h .0) (st .inside) in omega (arith, one-same (least l h .0 .slot) x (st .slot));
         }
 
@@ -203,7 +165,10 @@ module _ (t : Tables) (s : State) (x : ℕ) (low : (l : Ledger) (h : Carries t s
     pop-done k f ek ef t' s' gone =
         does-done popMin t s (k ∷ f ∷ []) t' s'
         (λ l h.
-        let w = least l (h .carries) in
-        let st = stands-x l (h .carries) in
+        let w = least l h in
+        let st = stands-x l h in
         rw (w .1 .is) (λ i. done ((ek ∙ st .key) i ∷ (ef ∙ st .frequency) i ∷ [])))
-        (λ l h. let w = least l (h .carries) in rw (w .1 .is) (let-go t s x t' s' gone l h (w .0) (stands-x l (h .carries))))
+        (λ l h.
+        let w = least l h in
+        let st = stands-x l h in
+        rw (w .1 .is) (gone .holds l (w .0) h (st .inside) (st .slot)))

@@ -8,12 +8,17 @@ use Prim.Native.Nat.{ℕ, _+_}
 use native.Mathlib.Omega.{arith}
 use lib.Dec.{eqb, ltb}
 use Rattle.lists.specs.Lists.{All, Without, one, times}
-use Rattle.lists.proofs.Members.{all-map, sum-append}
+use Rattle.lists.proofs.Members.{all-map, all-both, sum-append}
 use Rattle.ledger.specs.Ledger.{Item, tag, items, level, slotted}
 use Rattle.ledger.proofs.Split.{level-of, joined, hitAt}
+use Rattle.links.specs.Chain.{cells}
 use Rattle.levels.specs.Levels as levels
 use Rattle.levels.specs.Levels.{members, Nowhere, keep, join, touched}
-use Rattle.buckets_tables.specs.Holds.{entryAt, entriesAt, levelsAt, SameCells}
+use Rattle.buckets_tables.specs.Holds.{entryAt, entriesAt, levelsAt, Blank}
+
+-- two pairs of tables say the same of slot x
+abbrev pub SameCells : (k e k' e' : List ℕ) → ℕ → Type 0
+SameCells k e k' e' x = (cells k' x ≡ cells k x) × (cells e' x ≡ cells e x)
 
 module _ (k e : List ℕ) where
   pub entries-append : (xs ys : List ℕ) → entriesAt k e (xs ++ ys) ≡ entriesAt k e xs ++ entriesAt k e ys
@@ -90,3 +95,7 @@ module _ (k e k' e' : List ℕ) where
         levels-same ls
         (all-map (λ (l : levels.Level). Without x (l .slots)) (λ (l : levels.Level). All (SameCells k e k' e') (l .slots))
         (λ l w. all-map (λ y. y ≢ x) (SameCells k e k' e') away (l .slots) w) ls h)
+
+    -- and blank slots stay blank
+    pub still-blank : (xs : List ℕ) → Without x xs → All (Blank k e) xs → All (Blank k' e') xs
+    still-blank xs h z = all-both (λ y. y ≢ x) (Blank k e) (Blank k' e') (λ y d b. (away y d .0 ∙ b .0, away y d .1 ∙ b .1)) xs h z

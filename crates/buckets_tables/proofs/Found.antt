@@ -25,7 +25,7 @@ use Rattle.levels.specs.Levels as levels
 use Rattle.levels.specs.Held.{Line, Tabs, LineHeld, Held}
 use Rattle.buckets_tables.specs.declared.State.{State}
 use Rattle.buckets_tables.specs.Tables.{Tables, leveled}
-use Rattle.buckets_tables.specs.Holds.{entryAt, entriesAt, levelsAt, lowestOf, BoundSlot, Carries}
+use Rattle.buckets_tables.specs.Holds.{entryAt, entriesAt, levelsAt, lowestOf, BoundSlot, Holds}
 use Rattle.buckets_tables.proofs.Places.{Place, bound-place, only-there, there, in-there, found-there}
 
 -- each slot of a list has the list's frequency in its cell
@@ -36,7 +36,7 @@ frequencies t b ls h =
     (all-map (LineHeld (t .freqs) (t .prevs) (t .nexts) (t .buckets)) (λ (m : Line). All (λ x. getD (t .freqs) x 0 ≡ m .row .freq) (m .slots))
     (λ m k. all-map (λ x. (getD (t .freqs) x 0 ≡ m .row .freq) × _) (λ x. getD (t .freqs) x 0 ≡ m .row .freq) (λ x o. o .0) (m .slots) (k .own)) (h .lines) (h .rep .each)))
 
-module _ (t : Tables) (s : State) (l : Ledger) (h : Carries t s l) where
+module _ (t : Tables) (s : State) (l : Ledger) (h : Holds t s l) where
   -- the item in a slot, with what the tables say of it
   pub record Stands (y : Item) (x : ℕ) : Type 0 where
     pub inside : In y (items (l .levels))

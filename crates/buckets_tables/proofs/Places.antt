@@ -20,8 +20,8 @@ use Rattle.levels.specs.Levels as levels
 use Rattle.levels.specs.Levels.{members, Nowhere, keep, touched}
 use Rattle.buckets_tables.specs.declared.State.{State}
 use Rattle.buckets_tables.specs.Tables.{Tables}
-use Rattle.buckets_tables.specs.Holds.{entryAt, entriesAt, levelsAt, SameCells, BoundSlot, Carries}
-use Rattle.buckets_tables.proofs.Entries.{entries-append, levels-append, levels-at, levels-keep, levels-touched, slotted-members, entries-away, levels-away}
+use Rattle.buckets_tables.specs.Holds.{entryAt, entriesAt, levelsAt, BoundSlot, Holds}
+use Rattle.buckets_tables.proofs.Entries.{SameCells, entries-append, levels-append, levels-at, levels-keep, levels-touched, slotted-members, entries-away, levels-away}
 
 -- the place of slot x in lists
 pub record Place (ls : List levels.Level) (x : ℕ) : Type 0 where
@@ -59,7 +59,7 @@ members-append (u ∷ us) vs x =
     let b = sum-append (λ y. one y x) (u .slots) (members (us ++ vs)) in
     omega arith
 
-module _ (t : Tables) (s : State) (l : Ledger) (h : Carries t s l) where
+module _ (t : Tables) (s : State) (l : Ledger) (h : Holds t s l) where
   -- a slot that is bound has a place; one that is not stands nowhere
   pub times-bound : (x : ℕ) → times x (members (h .slots)) ≡ slotted x (items (l .levels))
   times-bound x = sym (ap (λ ls. slotted x (items ls)) (h .entries) ∙ slotted-members (t .keys) (t .epochs) x (h .slots))

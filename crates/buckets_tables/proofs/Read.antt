@@ -21,7 +21,7 @@ use Rattle.levels.specs.Levels as levels
 use Rattle.levels.specs.Held.{Line, rows, view, LineHeld}
 use Rattle.buckets_tables.specs.declared.State.{State}
 use Rattle.buckets_tables.specs.Tables.{Tables}
-use Rattle.buckets_tables.specs.Holds.{levelsAt, Carries, Holds}
+use Rattle.buckets_tables.specs.Holds.{levelsAt, Holds}
 use Rattle.buckets_tables.specs.LedgerOf.{followed, listAt, slotsOf, ledgerOf}
 
 chain-followed : (k size : ℕ) (n : ℕ → ℕ) (f : ℕ) (xs : List ℕ) → size ≤ NONE → length xs ≤ k → Chain size n f xs → followed k size n f ≡ xs
@@ -46,7 +46,7 @@ ring-followed size n p e xs l h k =
     let c = subst (λ (z : ℕ). Chain size n z xs) (look-end n e) (links-chain size n p e NONE xs l h k) in
     chain-followed size size n e xs l (chain-length size n l e xs c) c
 
-module _ (t : Tables) (s : State) (l : Ledger) (h : Carries t s l) where
+module _ (t : Tables) (s : State) (l : Ledger) (h : Holds t s l) where
   small : s .capacity ≤ NONE
   small = let a = h .limit in let b = h .capacity in omega arith
 
@@ -94,8 +94,5 @@ module _ (t : Tables) (s : State) (l : Ledger) (h : Carries t s l) where
   }
 
 -- The tables hold one ledger at most.
-pub carries-one : (t : Tables) (s : State) (l m : Ledger) → Carries t s l → Carries t s m → l ≡ m
-carries-one t s l m h k = sym (ledger-of t s l h) ∙ ledger-of t s m k
-
 pub holds-one : (t : Tables) (s : State) (l m : Ledger) → Holds t s l → Holds t s m → l ≡ m
-holds-one t s l m h k = carries-one t s l m (h .carries) (k .carries)
+holds-one t s l m h k = sym (ledger-of t s l h) ∙ ledger-of t s m k

@@ -28,12 +28,13 @@ use Rattle.levels.specs.Levels as levels
 use Rattle.levels.specs.Levels.{members}
 use Rattle.buckets_tables.specs.declared.State.{State}
 use Rattle.buckets_tables.specs.Tables.{Tables, tables}
-use Rattle.buckets_tables.specs.Holds.{entryAt, entriesAt, levelsAt, lowestOf, BoundSlot, Carries, Holds}
+use Rattle.buckets_tables.specs.Holds.{entryAt, entriesAt, levelsAt, lowestOf, BoundSlot, Holds}
 use Rattle.buckets_tables.specs.Calls as calls
 use Rattle.buckets_tables.specs.Calls.{nextEpoch}
+use Rattle.buckets_tables.proofs.Entries.{still-blank}
 use Rattle.buckets_tables.proofs.Places.{times-bound, bound-place, found-there}
 use Rattle.buckets_tables.proofs.Found.{found-at, found-nothing}
-use Rattle.buckets_tables.proofs.Doing.{does-refuse, does-done, still-blank}
+use Rattle.buckets_tables.proofs.Doing.{does-refuse, does-done}
 use Rattle.buckets_tables.specs.Lent.{buckets}
 
 -- The epoch of one entry
@@ -64,7 +65,7 @@ lowest-redated : (k n : ℕ) (ls : List Level) → lowestOf (redated k n ls) ≡
 lowest-redated k n [] = refl
 lowest-redated k n (l ∷ ls) = refl
 
-module _ (t : Tables) (s : State) (l : Ledger) (h : Carries t s l) (x : Slot) (key : ℕ) (at-x : index.Finds (t .index) (t .keys) key (At x)) where
+module _ (t : Tables) (s : State) (l : Ledger) (h : Holds t s l) (x : Slot) (key : ℕ) (at-x : index.Finds (t .index) (t .keys) key (At x)) where
   -- two bound slots with one key are one
   own-key : (y : ℕ) → In y (members (h .slots)) → cells (t .keys) y ≡ cells (t .keys) (x .0) → y ≡ x .0
   own-key y w q =
@@ -77,11 +78,13 @@ module _ (t : Tables) (s : State) (l : Ledger) (h : Carries t s l) (x : Slot) (k
   abbrev after : ℕ → Ledger
   after n = record { capacity = l .capacity; epoch = l .epoch; levels = redated key n (l .levels); free = l .free }
 
-  redated-carries : (n : ℕ) (e' : List ℕ) → e' ≡ set (t .epochs) (x .0) n →
-      Carries (tables (t .keys) (t .freqs) e' (t .prevs) (t .nexts) (t .arena) (t .index) (t .buckets) (t .spares)) s (after n)
-  redated-carries n e' is =
+  redated-holds : (n : ℕ) (e' : List ℕ) → e' ≡ set (t .epochs) (x .0) n →
+      Holds (tables (t .keys) (t .freqs) e' (t .prevs) (t .nexts) (t .arena) (t .index) (t .buckets) (t .spares)) s (after n)
+  redated-holds n e' is =
       let formed = redated-formed l (h .formed) key n in
-      let below = found-at t s l h key x at-x .there-is .below in
+      let bound = found-at t s l h key x at-x in
+      let below = bound .there-is .below in
+      let out = bound-slot l (h .formed) (bound .item-is) (bound .there-is .inside) .1 in
       record {
         formed = formed;
         limit = h .limit;
@@ -112,6 +115,9 @@ module _ (t : Tables) (s : State) (l : Ledger) (h : Carries t s l) (x : Slot) (k
             ∙ sym (levels-redated (t .keys) (t .epochs) (x .0) n (let a = h .sized .epochs-size in omega arith) (h .slots) own-key)
             ∙ ap (λ es. levelsAt (t .keys) es (h .slots)) (sym is);
         free = h .free;
+        zeros =
+            still-blank (t .keys) (t .epochs) (t .keys) e' (x .0) (λ y d. (refl, rw is (getD-set-other (t .epochs) (x .0) y n 0 d))) (l .free)
+            (times-without (x .0) (l .free) (ap (λ (m : ℕ). times m (l .free)) (sym (bound .there-is .slot)) ∙ out)) (h .zeros);
         index-sound = h .index-sound;
         indexed = λ y.
             let a = sum-redated (λ j z. one z y) key n (l .levels) in
@@ -123,7 +129,7 @@ module _ (t : Tables) (s : State) (l : Ledger) (h : Carries t s l) (x : Slot) (k
 
 pub redate-absent : (t : Tables) (s : State) (key n : ℕ) → index.Finds (t .index) (t .keys) key Nothing → Does buckets (setEntryEpoch key n) t s (refused Absent) t s
 unfolding setEntryEpoch
-redate-absent t s key n f = does-refuse (setEntryEpoch key n) t s Absent (λ l h. rw (found-nothing t s l (h .carries) key f))
+redate-absent t s key n f = does-refuse (setEntryEpoch key n) t s Absent (λ l h. rw (found-nothing t s l h key f))
 
 pub redate-done : (k f e p n a i b sp : List ℕ) (s : State) (key epoch : ℕ) (x : Slot) → index.Finds i k key (At x) → (e' : List ℕ) → e' ≡ set e (x .0) epoch →
     Does buckets (setEntryEpoch key epoch) (tables k f e p n a i b sp) s (done []) (tables k f e' p n a i b sp) s
@@ -132,41 +138,29 @@ redate-done k f e p n a i b sp s key epoch x at-x e' is =
     let t = tables k f e p n a i b sp in
     let t' = tables k f e' p n a i b sp in
     does-done (setEntryEpoch key epoch) t s [] t' s
-    (λ l h. rw (found-at t s l (h .carries) key x at-x .found))
-    (λ l h.
-    let w = found-at t s l (h .carries) key x at-x in
-    let out = bound-slot l (h .carries .formed) (w .item-is) (w .there-is .inside) .1 in
-    rw (w .found) (record {
-      carries = redated-carries t s l (h .carries) x key at-x epoch e' is;
-      zeros =
-          still-blank t t' (x .0) (l .free) (λ y d. (refl, rw is (getD-set-other e (x .0) y epoch 0 d)))
-          (times-without (x .0) (l .free) (ap (λ (m : ℕ). times m (l .free)) (sym (w .there-is .slot)) ∙ out)) (h .zeros);
-    }))
+    (λ l h. rw (found-at t s l h key x at-x .found))
+    (λ l h. rw (found-at t s l h key x at-x .found) (redated-holds t s l h x key at-x epoch e' is))
 
 -- The current epoch
 
 -- a state at another epoch, whatever the tables
 at-epoch : (t : Tables) (s : State) (l : Ledger) (n : ℕ) → Holds t s l → Holds t (calls.dated s n) (atEpoch n l)
-at-epoch t s l n h =
-    let c = h .carries in
-    record {
-      carries = record {
-        formed = epoch-formed l (c .formed) n;
-        limit = c .limit;
-        capacity = c .capacity;
-        sized = c .sized;
-        count = c .count;
-        lowest = c .lowest;
-        epoch = refl;
-        slots = c .slots;
-        lists = c .lists;
-        entries = c .entries;
-        free = c .free;
-        index-sound = c .index-sound;
-        indexed = c .indexed;
-      };
-      zeros = h .zeros;
-    }
+at-epoch t s l n h = record {
+  formed = epoch-formed l (h .formed) n;
+  limit = h .limit;
+  capacity = h .capacity;
+  sized = h .sized;
+  count = h .count;
+  lowest = h .lowest;
+  epoch = refl;
+  slots = h .slots;
+  lists = h .lists;
+  entries = h .entries;
+  free = h .free;
+  zeros = h .zeros;
+  index-sound = h .index-sound;
+  indexed = h .indexed;
+}
 
 pub epoch-set : (t : Tables) (s : State) (n : ℕ) (s' : State) → s' ≡ calls.dated s n → Does buckets (setEpoch n) t s (done []) t s'
 unfolding setEpoch
@@ -176,5 +170,5 @@ pub epoch-advanced : (t : Tables) (s s' : State) → s' ≡ calls.dated s (nextE
 unfolding advanceEpoch
 epoch-advanced t s s' is =
     does-done advanceEpoch t s (s' .epoch ∷ []) t s'
-    (λ l h. rw is (ap (λ (m : ℕ). done (nextEpoch m ∷ [])) (h .carries .epoch)))
-    (λ l h. rw is (subst (λ (m : ℕ). Holds t (calls.dated s (nextEpoch (s .epoch))) (atEpoch (nextEpoch m) l)) (h .carries .epoch) (at-epoch t s l (nextEpoch (s .epoch)) h)))
+    (λ l h. rw is (ap (λ (m : ℕ). done (nextEpoch m ∷ [])) (h .epoch)))
+    (λ l h. rw is (subst (λ (m : ℕ). Holds t (calls.dated s (nextEpoch (s .epoch))) (atEpoch (nextEpoch m) l)) (h .epoch) (at-epoch t s l (nextEpoch (s .epoch)) h)))

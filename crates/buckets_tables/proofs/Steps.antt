@@ -1,6 +1,6 @@
 -- What the tables hold after a key is bound, after a hit, and after a key is let go. Each field of `Holds` comes from one part: the
--- lists from the levels, the free order from the arena, the index from the key index, and the counts from bound and free slots
--- making up the capacity.
+-- lists from the levels, the free order from the arena, the index from the key index, the counts from bound and free slots making up
+-- the capacity, and free slots stay blank since one slot alone is written.
 use mathlib.Core.Path.{_≡_, refl, sym, ap, _∙_, subst}
 use mathlib.Core.Logic.{_≢_, _⊎_, inl, inr, _↔_, ⊎-elim}
 use mathlib.Core.Option.{none, some}
@@ -9,16 +9,15 @@ use Prim.Native.Nat.{ℕ, _+_, _≤_, _<_, _-_}
 use native.Mathlib.Omega.{arith}
 use lib.ListN.{length, set, length-set}
 use lib.Seq.{lt-length-set, getD-set-same, getD-set-other}
-use Rattle.numbers.specs.Frequency.{CEILING, raised}
+use Rattle.numbers.specs.Frequency.{FIRST, CEILING, raised}
 use Rattle.lists.specs.Lists.{All, Without, one, times}
-use Rattle.lists.proofs.Tests.{by-lt, if-eq, one-same, one-other}
-use Rattle.lists.proofs.Members.{all-map, in-sum, times-without}
-use Rattle.lists.proofs.Maps.{images-all, all-images}
-use Rattle.ledger.specs.Ledger.{Entry, Level, Ledger, Item, item, items, lookup, link, unlink, putAt, release, move, Rising, slotted, WellFormed}
+use Rattle.lists.proofs.Tests.{if-eq, one-same, one-other}
+use Rattle.lists.proofs.Members.{in-sum, times-without}
+use Rattle.ledger.specs.Ledger.{Entry, Level, Ledger, Item, item, items, lookup, link, unlink, put, release, move, slotted, WellFormed}
 use Rattle.ledger.proofs.Items.{found-none, cut, items-link, items-unlink, sum-place, sum-cut-in}
 use Rattle.ledger.proofs.Slots.{below-le, bound-slot, free-slot, size-and-free}
-use Rattle.ledger.proofs.Changes.{putAt-formed, release-formed, move-formed, raised-fits, items-move}
-use Rattle.ledger.proofs.Split.{link-at, joined, rising-above, level-of}
+use Rattle.ledger.proofs.Changes.{put-formed, release-formed, move-formed, raised-fits, items-move}
+use Rattle.ledger.proofs.Split.{link-from, joined, rising-above}
 use Rattle.links.specs.Chain.{cells}
 use Rattle.slot_arena.specs.Arena as arena
 use Rattle.slot_arena.specs.declared.Taken.{Taken}
@@ -35,9 +34,9 @@ use Rattle.levels.specs.Calls.{Unbinds, LowestFrequency, LevelTouches, LevelBin
 use Rattle.levels.specs.declared.Touched.{Touched}
 use Rattle.buckets_tables.specs.declared.State.{State}
 use Rattle.buckets_tables.specs.Tables.{Tables, tables, leveled, Sized}
-use Rattle.buckets_tables.specs.Holds.{entriesAt, levelsAt, SameCells, lowestOf, BoundSlot, Carries, Blank}
+use Rattle.buckets_tables.specs.Holds.{levelsAt, lowestOf, BoundSlot, Blank, Holds}
 use Rattle.buckets_tables.specs.Calls.{recounted, Vacant, EntersIndex, LeavesIndex}
-use Rattle.buckets_tables.proofs.Entries.{levels-append, levels-join, levels-away}
+use Rattle.buckets_tables.proofs.Entries.{SameCells, levels-join, levels-away, still-blank}
 use Rattle.buckets_tables.proofs.Places.{Place, bound-place, unbound-nowhere, there, in-there, found-there, released-lists, hit-lists}
 
 -- the lowest frequency is read alike from lists of slots and from the ledger's
@@ -46,39 +45,12 @@ lowest-levels k e [] = refl
 lowest-levels k e (l ∷ ls) = refl
 
 -- stores at x leave the cells of other slots
-pub away : (k e : List ℕ) (x v w y : ℕ) → y ≢ x → SameCells k e (set k x v) (set e x w) y
+away : (k e : List ℕ) (x v w y : ℕ) → y ≢ x → SameCells k e (set k x v) (set e x w) y
 away k e x v w y d = (getD-set-other k x y v 0 d, getD-set-other e x y w 0 d)
 
 -- the free order is made of slots that are not bound
 free-out : (l : Ledger) → WellFormed l → (x : ℕ) → 1 ≤ times x (l .free) → BoundSlot l x → ⊥
 free-out l w x f b = let c = w .slots x in let m = below-le x (l .capacity) in absurd (omega arith)
-
--- lists parted by a frequency: those below it, and those from it on
-pub record Parts (f : ℕ) (ls : List levels.Level) : Type 0 where
-  pub lower : List levels.Level
-  pub upper : List levels.Level
-  pub is : ls ≡ lower ++ upper
-  pub below : All (λ (m : levels.Level). m .freq < f) lower
-  pub from : All (λ (m : levels.Level). f ≤ m .freq) upper
-
--- lists whose frequencies rise can be parted anywhere
-pub part : (k e : List ℕ) (a f : ℕ) (ls : List levels.Level) → Rising a (levelsAt k e ls) → Parts f ls
-part k e a f [] r = record { lower = []; upper = []; is = refl; below = tt; from = tt }
-part k e a f (l ∷ ls) r =
-    let rest = part k e (l .freq) f ls (r .3) in
-    by-lt (l .freq) f
-    (λ h. record { lower = l ∷ rest .lower; upper = rest .upper; is = λ i. l ∷ rest .is i; below = (h, rest .below); from = rest .from })
-    (λ h. record {
-      lower = [];
-      upper = l ∷ ls;
-      is = refl;
-      below = tt;
-      from = (
-        h,
-        images-all (λ (m : levels.Level). level-of (m .freq) (entriesAt k e (m .slots))) (λ (m : Level). f ≤ m .frequency) ls
-            (all-map (λ (m : Level). l .freq < m .frequency) (λ (m : Level). f ≤ m .frequency) (λ m q. omega arith) (levelsAt k e ls) (rising-above (l .freq) (levelsAt k e ls) (r .3))),
-      );
-    })
 
 -- the field `lowest`, from what is read of the lists
 lowest-read : (f p n b sp : List ℕ) (bk : Buckets) (low : ℕ) (k e : List ℕ) (ls : List levels.Level) (ms : List Level) →
@@ -93,10 +65,10 @@ vacant-in k e i x key v = (
   lt-length-set k x key (v .slot .0),
 )
 
-module _ (t : Tables) (s : State) (l : Ledger) (h : Carries t s l) where
+module _ (t : Tables) (s : State) (l : Ledger) (h : Holds t s l) where
   -- A key is bound
 
-  module _ (f key x : ℕ) (rest : List ℕ) (above-zero : 1 ≤ f) (fits : f ≤ CEILING) (absent : lookup key l ≡ none) (free-is : l .free ≡ x ∷ rest) where
+  module _ (key x : ℕ) (rest : List ℕ) (absent : lookup key l ≡ none) (free-is : l .free ≡ x ∷ rest) where
     first-free : (x < l .capacity) × (times x rest ≡ 0)
     first-free = free-slot l (h .formed) x rest free-is
 
@@ -130,41 +102,35 @@ module _ (t : Tables) (s : State) (l : Ledger) (h : Carries t s l) where
           let z : _≡_ {A = ℕ} 0 1 = cc in
           absurd (omega arith)
 
-      bound-now : (y : ℕ) → BoundSlot (putAt f key x rest l) y ↔ ((y ≡ x) ⊎ BoundSlot l y)
+      bound-now : (y : ℕ) → BoundSlot (put key x rest l) y ↔ ((y ≡ x) ⊎ BoundSlot l y)
       bound-now y =
-          let q = ap (slotted y) (items-link f (record { key = key; slot = x; epoch = l .epoch }) 0 (l .levels) (h .formed .rising)) in
-          let c = sum-place (λ z. one (z .slot) y) (item f (record { key = key; slot = x; epoch = l .epoch })) (items (l .levels)) in (
-            λ b. if-eq (λ n. n + slotted y (items (l .levels)) ≡ slotted y (items (putAt f key x rest l .levels)) → (y ≡ x) ⊎ BoundSlot l y) x y (λ e _. inl (sym e)) (λ d g. inr (omega arith)) (sym c ∙ sym q),
+          let q = ap (slotted y) (items-link FIRST (record { key = key; slot = x; epoch = l .epoch }) 0 (l .levels) (h .formed .rising)) in
+          let c = sum-place (λ z. one (z .slot) y) (item FIRST (record { key = key; slot = x; epoch = l .epoch })) (items (l .levels)) in (
+            λ b. if-eq (λ n. n + slotted y (items (l .levels)) ≡ slotted y (items (put key x rest l .levels)) → (y ≡ x) ⊎ BoundSlot l y) x y (λ e _. inl (sym e)) (λ d g. inr (omega arith)) (sym c ∙ sym q),
             ⊎-elim (λ e. omega (arith, one-same x y (sym e))) (λ b. omega arith),
           )
 
+      entries-now : put key x rest l .levels ≡ levelsAt k' e' (join x FIRST (h .slots))
+      entries-now =
+          link-from FIRST (record { key = key; slot = x; epoch = l .epoch }) (l .levels) (rising-above 0 (l .levels) (h .formed .rising))
+          ∙ (λ i. joined FIRST (record { key = sym key-there i; slot = x; epoch = (sym (h .epoch) ∙ sym epoch-there) i }) (same-lists i))
+          ∙ sym (levels-join k' e' x FIRST (h .slots))
+        where
+          same-lists : l .levels ≡ levelsAt k' e' (h .slots)
+          same-lists = h .entries ∙ sym (levels-away (t .keys) (t .epochs) k' e' x stays (h .slots) (unbound-nowhere t s l h x free-unbound))
+
+      zeros-now : All (Blank k' e') rest
+      zeros-now = still-blank (t .keys) (t .epochs) k' e' x stays rest (times-without x rest (first-free .1)) ((rw free-is at (h .zeros)) .1)
+
       module _ (a' : List ℕ) (r : Taken) (takes : arena.Takes (t .arena) (s .free) a' r) (f' p' n' b' sp' : List ℕ) (bk : Buckets)
-          (binds : LevelBinds (leveled t) (s .buckets) x f (tabs f' p' n' b' sp') bk) (low : ℕ) (reads : LowestFrequency b' bk low)
+          (binds : LevelBinds (leveled t) (s .buckets) x (tabs f' p' n' b' sp') bk) (low : ℕ) (reads : LowestFrequency b' bk low)
           (sized : Sized (tables k' f' e' p' n' a' i' b' sp') (l .capacity)) where
-        -- the lists below f and those from f on
-        parts : Parts f (h .slots)
-        parts = part (t .keys) (t .epochs) 0 f (h .slots) (rw (h .entries) at (h .formed .rising))
+        lists-now : Held (tabs f' p' n' b' sp') bk (join x FIRST (h .slots))
+        lists-now = binds .holds (h .slots) (h .lists)
 
-        abbrev after : List levels.Level
-        after = parts .lower ++ join x f (parts .upper)
-
-        lists-now : Held (tabs f' p' n' b' sp') bk after
-        lists-now = binds .holds (parts .lower) (parts .upper) above-zero (parts .below) (parts .from) (subst (Held (leveled t) (s .buckets)) (parts .is) (h .lists))
-
-        entries-now : putAt f key x rest l .levels ≡ levelsAt k' e' after
-        entries-now =
-            let d : Entry = record { key = key; slot = x; epoch = l .epoch } in
-            ap (link f d) (h .entries ∙ sym (levels-away (t .keys) (t .epochs) k' e' x stays (h .slots) (unbound-nowhere t s l h x free-unbound)) ∙ ap (levelsAt k' e') (parts .is) ∙ levels-append k' e' (parts .lower) (parts .upper))
-            ∙ link-at f d (levelsAt k' e' (parts .lower)) (levelsAt k' e' (parts .upper))
-            (all-images (λ (m : levels.Level). level-of (m .freq) (entriesAt k' e' (m .slots))) (λ (m : Level). m .frequency < f) (parts .lower) (parts .below))
-            (all-images (λ (m : levels.Level). level-of (m .freq) (entriesAt k' e' (m .slots))) (λ (m : Level). f ≤ m .frequency) (parts .upper) (parts .from))
-            ∙ ap (λ (c : Entry). levelsAt k' e' (parts .lower) ++ joined f c (levelsAt k' e' (parts .upper))) (λ i. record { key = sym key-there i; slot = x; epoch = (sym (h .epoch) ∙ sym epoch-there) i })
-            ∙ ap (λ ms. levelsAt k' e' (parts .lower) ++ ms) (sym (levels-join k' e' x f (parts .upper)))
-            ∙ sym (levels-append k' e' (parts .lower) (join x f (parts .upper)))
-
-        pub put-carries : Carries (tables k' f' e' p' n' a' i' b' sp') (recounted s (s .count + 1) low (r .order) bk) (putAt f key x rest l)
-        put-carries =
-            let formed = putAt-formed l (h .formed) f key x rest above-zero fits (found-none key (items (l .levels)) absent) free-is in
+        pub put-holds : Holds (tables k' f' e' p' n' a' i' b' sp') (recounted s (s .count + 1) low (r .order) bk) (put key x rest l)
+        put-holds =
+            let formed = put-formed l (h .formed) key x rest (found-none key (items (l .levels)) absent) free-is in
             record {
               formed = formed;
               limit = h .limit;
@@ -172,16 +138,17 @@ module _ (t : Tables) (s : State) (l : Ledger) (h : Carries t s l) where
               sized = sized;
               count =
                   let a = size-and-free l (h .formed) in
-                  let b = size-and-free (putAt f key x rest l) formed in
+                  let b = size-and-free (put key x rest l) formed in
                   let c = ap length free-is in
                   let d = h .count in
                   omega arith;
-              lowest = lowest-read f' p' n' b' sp' bk low k' e' after (putAt f key x rest l .levels) reads lists-now entries-now;
+              lowest = lowest-read f' p' n' b' sp' bk low k' e' (join x FIRST (h .slots)) (put key x rest l .levels) reads lists-now entries-now;
               epoch = h .epoch;
-              slots = after;
+              slots = join x FIRST (h .slots);
               lists = lists-now;
               entries = entries-now;
               free = takes .holds x rest (rw free-is at (h .free));
+              zeros = zeros-now;
               index-sound = enters .index-is .sound key-absent;
               indexed = λ y.
                   let i = enters .index-is .has key-absent y in
@@ -200,7 +167,7 @@ module _ (t : Tables) (s : State) (l : Ledger) (h : Carries t s l) where
     bound-x : (x < l .capacity) × (times x (l .free) ≡ 0)
     bound-x = bound-slot l (h .formed) me (in-there t s l h x p)
 
-    pub not-free : Without x (l .free)
+    not-free : Without x (l .free)
     not-free = times-without x (l .free) (bound-x .1)
 
     held-there : Held (leveled t) (s .buckets) (p .us ++ levels.level (p .freq) (p .xs ++ x ∷ p .ys) ∷ p .vs)
@@ -239,8 +206,8 @@ module _ (t : Tables) (s : State) (l : Ledger) (h : Carries t s l) where
           let c = sum-cut-in (λ z. one (z .slot) y) (items (l .levels)) me (in-there t s l h x p) (h .formed .keys (me .key)) in
           omega arith
 
-      pub hit-carries : Carries (tables (t .keys) f' e' p' n' (t .arena) (t .index) b' sp') (recounted s (s .count) low (s .free) (r .state)) (move me (raised cap (p .freq)) l)
-      hit-carries =
+      pub hit-holds : Holds (tables (t .keys) f' e' p' n' (t .arena) (t .index) b' sp') (recounted s (s .count) low (s .free) (r .state)) (move me (raised cap (p .freq)) l)
+      hit-holds =
           let fits = raised-fits l (h .formed) cap me (in-there t s l h x p) cap-fits in
           let formed = move-formed l (h .formed) me (raised cap (p .freq)) (in-there t s l h x p) (fits .0) (fits .1) in
           record {
@@ -259,6 +226,7 @@ module _ (t : Tables) (s : State) (l : Ledger) (h : Carries t s l) where
             lists = lists-hit;
             entries = entries-hit;
             free = h .free;
+            zeros = still-blank (t .keys) (t .epochs) (t .keys) e' x stays-hit (l .free) not-free (h .zeros);
             index-sound = h .index-sound;
             indexed = λ y. let q = slotted-hit y in let o = h .indexed y in (λ has. let b = o .0 has in omega arith, λ b. o .1 (omega arith));
           }
@@ -309,8 +277,14 @@ module _ (t : Tables) (s : State) (l : Ledger) (h : Carries t s l) where
             λ b. let c = b .0 in omega (arith, one-other x y (λ e. b .1 (sym e))),
           )
 
-      pub release-carries : Carries (tables k' f' e' p' n' a' i' b' sp') (recounted s (s .count - 1) low o' bk) (release me l)
-      release-carries =
+      blank-left : Blank k' e' x
+      blank-left = (
+        rw (leaves .keys-are) (getD-set-same (t .keys) x 0 0 (let a = h .sized .keys-size in let b = bound-x .0 in omega arith)),
+        rw (leaves .epochs-are) (getD-set-same (t .epochs) x 0 0 (let a = h .sized .epochs-size in let b = bound-x .0 in omega arith)),
+      )
+
+      pub release-holds : Holds (tables k' f' e' p' n' a' i' b' sp') (recounted s (s .count - 1) low o' bk) (release me l)
+      release-holds =
           let formed = release-formed l (h .formed) me (in-there t s l h x p) in
           record {
             formed = formed;
@@ -328,6 +302,7 @@ module _ (t : Tables) (s : State) (l : Ledger) (h : Carries t s l) where
             lists = lists-left;
             entries = entries-left;
             free = releases .holds (l .free) (h .free) (in-use-exact (t .arena) (s .free) (l .free) (h .free) x .1 (let a = h .sized .arena-size in let b = bound-x .0 in omega arith, not-free));
+            zeros = (blank-left, still-blank (t .keys) (t .epochs) k' e' x stays-left (l .free) not-free (h .zeros));
             index-sound =
                 sound-frame i' (t .keys) k' keys-left (leaves .index-is .sound has-x) (λ y w. stays-left y (leaves .index-is .has has-x y .0 w .1) .0);
             indexed = λ y.
@@ -336,9 +311,3 @@ module _ (t : Tables) (s : State) (l : Ledger) (h : Carries t s l) where
                 let o = h .indexed y in
                 (λ w. let v = i .0 w in b .1 (o .0 (v .0), v .1), λ w. let v = b .0 w in i .1 (o .1 (v .0), v .1));
           }
-
-      pub blank-left : Blank k' e' x
-      blank-left = (
-        rw (leaves .keys-are) (getD-set-same (t .keys) x 0 0 (let a = h .sized .keys-size in let b = bound-x .0 in omega arith)),
-        rw (leaves .epochs-are) (getD-set-same (t .epochs) x 0 0 (let a = h .sized .epochs-size in let b = bound-x .0 in omega arith)),
-      )

@@ -1,6 +1,5 @@
 -- What the calls on sound tables do: the state's own steps, and the shape of every promise.
 use mathlib.Core.Path.{_≡_}
-use mathlib.Core.Logic.{_≢_}
 use mathlib.Core.Option.{none}
 use mathlib.Core.List.{List, _∷_}
 use Prim.Native.Nat.{ℕ, _+_, _*_, _<_, _≤_, _%_, _^_}
@@ -8,7 +7,7 @@ use lib.ListN.{length, set}
 use Rattle.numbers.specs.Marks.{LIMIT}
 use Rattle.numbers.specs.Frequency.{CEILING, raised}
 use Rattle.lists.specs.Lists.{In}
-use Rattle.ledger.specs.Ledger.{Ledger, Item, new, items, lookup, putAt, release, move}
+use Rattle.ledger.specs.Ledger.{Ledger, Item, new, items, lookup, put, release, move}
 use Rattle.links.specs.Chain.{cells}
 use Rattle.slot_arena.specs.declared.Order.{Order}
 use Rattle.bucket_table.specs.declared.Buckets.{Buckets}
@@ -19,7 +18,7 @@ use Rattle.buckets_tables.specs.declared.State.{State}
 use Rattle.buckets_tables.specs.Tables.{Tables, tables, Sized}
 use Rattle.buckets_tables.specs.declared.Placed.{Placed}
 use Rattle.buckets_tables.specs.declared.Hit.{Hit}
-use Rattle.buckets_tables.specs.Holds.{SameCells, BoundSlot, Carries, Blank, Holds}
+use Rattle.buckets_tables.specs.Holds.{BoundSlot, Holds}
 
 -- the state with another count, lowest frequency, free order and bucket records
 abbrev pub recounted : State → ℕ → ℕ → Order → Buckets → State
@@ -33,28 +32,26 @@ dated s n = record { capacity = s .capacity; count = s .count; lowest = s .lowes
 abbrev pub nextEpoch : ℕ → ℕ
 nextEpoch n = (n + 1) % (2 ^ 64)
 
--- Parts of the calls. Each says what it does to every ledger that the tables carry.
+-- Parts of the calls. Each says what it does to every ledger that the tables hold.
 
--- the key is absent, the first slot of the free order is there for it, and f is a level
-pub record Room (t : Tables) (s : State) (key f : ℕ) : Type 0 where
-  pub level : (1 ≤ f) × (f ≤ CEILING)
+-- the key is absent, and the first slot of the free order is there for it
+pub record Room (t : Tables) (s : State) (key : ℕ) : Type 0 where
   pub ledger : Ledger
   pub rest : List ℕ
-  pub carries : Carries t s ledger
+  pub holds : Holds t s ledger
   pub absent : lookup key ledger ≡ none
   pub free-is : ledger .free ≡ s .free .first ∷ rest
 
--- the key is bound at frequency f in the first slot of the free order; no other slot's key or epoch changes
-pub record Binds (t : Tables) (s : State) (key f : ℕ) (t' : Tables) (r : Placed) : Type 0 where
+-- the key is bound in the first slot of the free order
+pub record Binds (t : Tables) (s : State) (key : ℕ) (t' : Tables) (r : Placed) : Type 0 where
   pub slot : r .slot .0 ≡ s .free .first
-  pub carries : (l : Ledger) (rest : List ℕ) → Carries t s l → lookup key l ≡ none → l .free ≡ s .free .first ∷ rest → 1 ≤ f → f ≤ CEILING →
-      Carries t' (r .state) (putAt f key (s .free .first) rest l)
-  pub others : (y : ℕ) → y ≢ s .free .first → SameCells (t .keys) (t .epochs) (t' .keys) (t' .epochs) y
+  pub holds : (l : Ledger) (rest : List ℕ) → Holds t s l → lookup key l ≡ none → l .free ≡ s .free .first ∷ rest →
+      Holds t' (r .state) (put key (s .free .first) rest l)
 
--- the tables carry a ledger in which slot x is bound
+-- the tables hold a ledger in which slot x is bound
 pub record BoundIn (t : Tables) (s : State) (x : ℕ) : Type 0 where
   pub ledger : Ledger
-  pub carries : Carries t s ledger
+  pub holds : Holds t s ledger
   pub bound : BoundSlot ledger x
 
 -- the same for six tables, with some keys, arena and index that are not lent
@@ -63,17 +60,14 @@ Hittable f e p n b sp s x = (k : List ℕ) × (a : List ℕ) × (i : List ℕ) �
 
 -- the item in slot x is hit, up to a cap
 pub record Hits (f e p n b sp : List ℕ) (s : State) (x cap : ℕ) (f' e' p' n' b' sp' : List ℕ) (r : Hit) : Type 0 where
-  pub answer : (k a i : List ℕ) (l : Ledger) (y : Item) → Carries (tables k f e p n a i b sp) s l → In y (items (l .levels)) → y .slot ≡ x →
+  pub answer : (k a i : List ℕ) (l : Ledger) (y : Item) → Holds (tables k f e p n a i b sp) s l → In y (items (l .levels)) → y .slot ≡ x →
       r .frequency .0 ≡ raised cap (y .frequency)
-  pub carries : (k a i : List ℕ) (l : Ledger) (y : Item) → Carries (tables k f e p n a i b sp) s l → In y (items (l .levels)) → y .slot ≡ x → cap ≤ CEILING →
-      Carries (tables k f' e' p' n' a i b' sp') (r .state) (move y (raised cap (y .frequency)) l)
-  pub others : (y : ℕ) → y ≢ x → cells e' y ≡ cells e y
+  pub holds : (k a i : List ℕ) (l : Ledger) (y : Item) → Holds (tables k f e p n a i b sp) s l → In y (items (l .levels)) → y .slot ≡ x → cap ≤ CEILING →
+      Holds (tables k f' e' p' n' a i b' sp') (r .state) (move y (raised cap (y .frequency)) l)
 
--- the item in slot x is let go, and the slot is blank
+-- the item in slot x is let go
 pub record LetsGo (t : Tables) (s : State) (x : ℕ) (t' : Tables) (s' : State) : Type 0 where
-  pub carries : (l : Ledger) (y : Item) → Carries t s l → In y (items (l .levels)) → y .slot ≡ x → Carries t' s' (release y l)
-  pub blank : (l : Ledger) (y : Item) → Carries t s l → In y (items (l .levels)) → y .slot ≡ x → Blank (t' .keys) (t' .epochs) x
-  pub others : (y : ℕ) → y ≢ x → SameCells (t .keys) (t .epochs) (t' .keys) (t' .epochs) y
+  pub holds : (l : Ledger) (y : Item) → Holds t s l → In y (items (l .levels)) → y .slot ≡ x → Holds t' s' (release y l)
 
 -- a slot of the entry tables that is not in the index
 pub record Vacant (k e i : List ℕ) (x : ℕ) : Type 0 where
@@ -95,11 +89,10 @@ pub record LeavesIndex (k e i : List ℕ) (x : ℕ) (k' e' i' : List ℕ) : Type
 
 -- Making and clearing
 
--- a table with zeros from m on, as long as it was
-pub record Wiped (t : List ℕ) (m : ℕ) (t' : List ℕ) : Type 0 where
+-- a table of zeros, as long as it was
+pub record Wiped (t t' : List ℕ) : Type 0 where
   pub size : length t' ≡ length t
-  pub kept : (i : ℕ) → i < m → cells t' i ≡ cells t i
-  pub zero : (i : ℕ) → m ≤ i → cells t' i ≡ 0
+  pub zero : (i : ℕ) → cells t' i ≡ 0
 
 -- eight tables have the lengths that a capacity calls for; the bucket table is not lent
 pub record Fitting (k f e p n a i sp : List ℕ) (c : ℕ) : Type 0 where

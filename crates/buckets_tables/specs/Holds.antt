@@ -26,10 +26,6 @@ entriesAt keys epochs ss = map (entryAt keys epochs) ss
 abbrev pub levelsAt : (keys epochs : List ℕ) → List levels.Level → List Level
 levelsAt keys epochs ls = map (λ (l : levels.Level). record { frequency = l .freq; entries = entriesAt keys epochs (l .slots) }) ls
 
--- two pairs of tables say the same of slot x
-abbrev pub SameCells : (k e k' e' : List ℕ) → ℕ → Type 0
-SameCells k e k' e' x = (cells k' x ≡ cells k x) × (cells e' x ≡ cells e x)
-
 -- the lowest frequency in use, 0 where there is none
 abbrev pub lowestOf : List Level → ℕ
 lowestOf [] = 0
@@ -39,8 +35,12 @@ lowestOf (l ∷ ls) = l .frequency
 abbrev pub BoundSlot : Ledger → ℕ → Type 0
 BoundSlot l s = 1 ≤ slotted s (items (l .levels))
 
--- the tables carry a ledger: all but what the cells of free slots hold
-pub record Carries (t : Tables) (s : State) (l : Ledger) : Type 0 where
+-- key and epoch of a slot are 0
+abbrev pub Blank : (keys epochs : List ℕ) → ℕ → Type 0
+Blank keys epochs x = (cells keys x ≡ 0) × (cells epochs x ≡ 0)
+
+-- the tables hold a ledger
+pub record Holds (t : Tables) (s : State) (l : Ledger) : Type 0 where
   -- every slot is bound once or free once, no key stands twice, the frequencies rise
   pub formed : WellFormed l
   -- sizes and counts
@@ -56,15 +56,8 @@ pub record Carries (t : Tables) (s : State) (l : Ledger) : Type 0 where
   pub entries : l .levels ≡ levelsAt (t .keys) (t .epochs) slots
   -- the order of the free slots
   pub free : ArenaHolds (t .arena) (s .free) (l .free)
+  -- free slots hold 0 (their frequency too, which is part of the lists)
+  pub zeros : All (Blank (t .keys) (t .epochs)) (l .free)
   -- index and entries agree: exactly the bound slots are in the index
   pub index-sound : IndexSound (t .index) (t .keys)
   pub indexed : (x : ℕ) → index.Has (t .index) (t .keys) x ↔ BoundSlot l x
-
--- key and epoch of a slot are 0
-abbrev pub Blank : (keys epochs : List ℕ) → ℕ → Type 0
-Blank keys epochs x = (cells keys x ≡ 0) × (cells epochs x ≡ 0)
-
--- and free slots hold 0 (their frequency too, which is part of the lists)
-pub record Holds (t : Tables) (s : State) (l : Ledger) : Type 0 where
-  pub carries : Carries t s l
-  pub zeros : All (Blank (t .keys) (t .epochs)) (l .free)

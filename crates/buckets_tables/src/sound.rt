@@ -1,10 +1,10 @@
 // The calls on tables that are known to be sound: they check nothing. Those that bind, hit or let go one key take a few steps beside
-// the key index's search.
+// the key index's search. Making takes tables of the right sizes, whatever they hold, in time linear in their length.
 ghost use Prim.Native.Nat.{_<_};
 ghost use lib.ListN.{length};
 ghost use Rattle.key_index.specs.Index.{IndexSound};
 ghost use Rattle.buckets_tables.specs.Slices.{lent, before, after};
-ghost use Rattle.buckets_tables.specs.Calls.{Room, Binds, Hits, BoundIn, LetsGo, Vacant, Wiped, Hittable, EntersIndex, LeavesIndex};
+ghost use Rattle.buckets_tables.specs.Calls.{Room, Binds, Hits, BoundIn, LetsGo, Vacant, Hittable, EntersIndex, LeavesIndex, Wiped, Fitting, Cleared};
 use crate::Hit;
 use crate::Placed;
 use crate::State;
@@ -45,7 +45,7 @@ fn leave_entry(keys: &mut [u64], epochs: &mut [u64], index: &mut [u64], slot: Sl
     epochs[s] = 0;
 }
 
-// Binds an absent key at a frequency, in the first slot of the free order.
+// Binds an absent key at the first frequency, in the first slot of the free order.
 pub fn bind(
     keys: &mut [u64],
     freqs: &mut [u64],
@@ -58,27 +58,17 @@ pub fn bind(
     spares: &mut [u64],
     state: State,
     key: Key,
-    frequency: Frequency,
 ) -> Placed
-    requires { ⌜ Room (lent keys freqs epochs prevs nexts arena index buckets spares) state (key .0) (frequency .0) ⌝ }
+    requires { ⌜ Room (lent keys freqs epochs prevs nexts arena index buckets spares) state (key .0) ⌝ }
     ensures { λ r. ⌜ Binds
-        (before keys freqs epochs prevs nexts arena index buckets spares) state (key .0) (frequency .0)
+        (before keys freqs epochs prevs nexts arena index buckets spares) state (key .0)
         (after keys freqs epochs prevs nexts arena index buckets spares) r ⌝ }
 {
     let taken = slot_arena::sound::take(arena, state.free);
     let slot = taken.slot;
     let order = taken.order;
     enter_entry(keys, epochs, index, slot, key, state.epoch);
-    let records = levels::sound::bind(
-        freqs,
-        prevs,
-        nexts,
-        buckets,
-        spares,
-        state.buckets,
-        slot,
-        frequency,
-    );
+    let records = levels::sound::bind(freqs, prevs, nexts, buckets, spares, state.buckets, slot);
     let lowest = levels::sound::lowest_frequency(&buckets[..], records);
     let after = state.recounted(state.count + 1, lowest, order, records);
     Placed {
@@ -152,13 +142,44 @@ pub fn let_go(
     state.recounted(state.count - 1, lowest, order, records)
 }
 
-// Sets the cells of a table to 0, from one on.
-pub fn wipe(t: &mut [u64], from: u64)
-    ensures { λ _. ⌜ Wiped (now (t .entry)) from (now (t .exit)) ⌝ }
+// Sets all cells of a table to 0.
+pub fn wipe(t: &mut [u64])
+    ensures { λ _. ⌜ Wiped (now (t .entry)) (now (t .exit)) ⌝ }
 {
-    let mut i = from as usize;
+    let mut i: usize = 0;
     while i < t.len() {
         t[i] = 0;
         i += 1;
+    }
+}
+
+// Makes the tables of a capacity, which may have held anything: no key is bound, and the epoch is 0. Clearing is this too.
+pub fn make(
+    keys: &mut [u64],
+    freqs: &mut [u64],
+    epochs: &mut [u64],
+    prevs: &mut [u64],
+    nexts: &mut [u64],
+    arena: &mut [u64],
+    index: &mut [u64],
+    spares: &mut [u64],
+    capacity: u64,
+) -> State
+    requires { ⌜ Fitting (now keys) (now freqs) (now epochs) (now prevs) (now nexts) (now arena) (now index) (now spares) capacity ⌝ }
+    ensures { λ r. ⌜ Cleared
+        (now (keys .exit)) (now (freqs .exit)) (now (epochs .exit)) (now (prevs .exit)) (now (nexts .exit)) (now (arena .exit)) (now (index .exit)) (now (spares .exit)) capacity r ⌝ }
+{
+    wipe(keys);
+    wipe(epochs);
+    let buckets = levels::sound::reset(freqs, prevs, nexts, spares);
+    key_index::clear(index);
+    let free = slot_arena::sound::fill(arena, 0);
+    State {
+        capacity: capacity,
+        count: 0,
+        lowest: 0,
+        epoch: 0,
+        free: free,
+        buckets: buckets,
     }
 }

@@ -11,8 +11,7 @@ use Rattle.lists.specs.Lists.{All, In}
 use Rattle.lists.proofs.Tests.{if-eq, if-same, if-other}
 use Rattle.lists.proofs.Members.{all-left, all-right}
 use Rattle.ledger.specs.Ledger.{Ledger, Item, item, items, tag}
-use Rattle.ledger.specs.Rebuild.{inSlot}
-use Rattle.ledger.specs.Walk.{here, listOf, head, start, after, afterItem, step}
+use Rattle.ledger.specs.Walk.{inSlot, here, listOf, head, start, after, afterItem, step}
 use Rattle.ledger.proofs.Walked.{listOf-in}
 use Rattle.levels.specs.Levels.{Level, level, members, first, headOf, LevelsRise}
 use Rattle.buckets_tables.specs.Holds.{entryAt, entriesAt, levelsAt}

@@ -26,7 +26,7 @@ use Rattle.levels.proofs.Lines.{nowhere-members}
 use Rattle.levels.proofs.One.{held-one, held-below, held-rising, held-next, free-nowhere, taken-bound}
 use Rattle.buckets_tables.specs.declared.State.{State}
 use Rattle.buckets_tables.specs.Tables.{Tables, tables, leveled}
-use Rattle.buckets_tables.specs.Holds.{entryAt, entriesAt, BoundSlot, Carries, Holds}
+use Rattle.buckets_tables.specs.Holds.{entryAt, entriesAt, BoundSlot, Holds}
 use Rattle.buckets_tables.proofs.Entries.{slotted-members}
 use Rattle.buckets_tables.proofs.Found.{Stands, stands}
 use Rattle.buckets_walk.specs.declared.After.{After}
@@ -43,7 +43,7 @@ lands : (k e : List ℕ) (f : ℕ) (ys : List ℕ) → All (λ y. y ≢ NONE) ys
 lands k e f [] a = if-same NONE NONE link.NoMore (link.At (record { 0 = NONE })) refl
 lands k e f (y ∷ ys) a = if-other y NONE link.NoMore (link.At (record { 0 = y })) (a .0)
 
-module _ (t : Tables) (s : State) (l : Ledger) (h : Carries t s l) where
+module _ (t : Tables) (s : State) (l : Ledger) (h : Holds t s l) where
   small : All (λ y. y ≢ NONE) (levels.members (h .slots))
   small =
       let c = h .limit in
@@ -91,13 +91,13 @@ module _ (n : List ℕ) (x : ℕ) where
   pub next-outside : length n ≤ x → Leads n x link.Absent
   next-outside b = record {
     cell = sym (if-not-less x (length n) _ link.Absent b);
-    steps = λ k f e p a i bk sp s l h. let z = h .carries .sized .nexts-size in ap slotOf (sym (step-outside l (h .carries .formed) x (omega arith)));
+    steps = λ k f e p a i bk sp s l h. let z = h .sized .nexts-size in ap slotOf (sym (step-outside l (h .formed) x (omega arith)));
   }
 
   pub next-free : cells n x ≡ x → Leads n x link.Absent
   next-free q = record {
     cell = sym (if-lt (λ (r : After). r ≡ link.Absent) x (length n) (λ b. if-same (cells n x) x link.Absent _ q) (λ b. refl));
-    steps = λ k f e p a i bk sp s l h. ap slotOf (sym (step-away (tables k f e p n a i bk sp) s l (h .carries) x q));
+    steps = λ k f e p a i bk sp s l h. ap slotOf (sym (step-away (tables k f e p n a i bk sp) s l h x q));
   }
 
   module _ (b : x < length n) (d : cells n x ≢ x) where
@@ -108,7 +108,7 @@ module _ (n : List ℕ) (x : ℕ) where
     led-by : (r : After) → r ≡ cond (eqb (cells n x) NONE) link.NoMore (link.At (record { 0 = cells n x })) → Leads n x r
     led-by r q = record {
       cell = q ∙ sym cell-is;
-      steps = λ k f e p a i bk sp s l h. q ∙ step-led (tables k f e p n a i bk sp) s l (h .carries) x b d;
+      steps = λ k f e p a i bk sp s l h. q ∙ step-led (tables k f e p n a i bk sp) s l h x b d;
     }
 
     pub next-none : (y : ℕ) → y ≡ cells n x → y ≡ NONE → Leads n x link.NoMore
@@ -145,7 +145,7 @@ at-here y (here z) q = (z, refl, ap number (sym q))
 at-here y noMore q = let c : _≡_ {A = ℕ} 0 1 = cc in absurd (omega arith)
 at-here y absent q = let c : _≡_ {A = ℕ} 0 1 = cc in absurd (omega arith)
 
-module _ (t : Tables) (s : State) (l : Ledger) (h : Carries t s l) where
+module _ (t : Tables) (s : State) (l : Ledger) (h : Holds t s l) where
   -- the ledger shows the item in that slot
   seen : (st : Step) → ((z : Item) → st ≡ here z → In z (items (l .levels))) → (y : Slot) → link.At y ≡ slotOf st → (z : Item) × (st ≡ here z) × Stands t s l h z (y .0)
   seen st i y q = let w = at-here y st q in (w .0, w .1, subst (Stands t s l h (w .0)) (w .2) (stands t s l h (w .0) (i (w .0) (w .1))))
@@ -155,7 +155,7 @@ module _ (t : Tables) (s : State) (l : Ledger) (h : Carries t s l) where
 -- links lead only to slots that are bound, in whatever ledger they are the links of
 pub leads-bound : (n : List ℕ) (x : ℕ) (y : Slot) → Leads n x (link.At y) → (k f e p a i b sp : List ℕ) (s : State) (l : Ledger) → Holds (tables k f e p n a i b sp) s l → BoundSlot l (y .0)
 leads-bound n x y q k f e p a i b sp s l h =
-    let w = seen (tables k f e p n a i b sp) s l (h .carries) (step x l) (step-in x l) y (q .steps k f e p a i b sp s l h) in
+    let w = seen (tables k f e p n a i b sp) s l h (step x l) (step-in x l) y (q .steps k f e p a i b sp s l h) in
     let c = in-sum (λ (z : Item). one (z .slot) (y .0)) (items (l .levels)) (w .0) (w .2 .inside) in
     omega (arith, one-same (w .0 .slot) (y .0) (w .2 .slot))
 
@@ -172,24 +172,24 @@ module _ (k f e n : List ℕ) (x : ℕ) where
     pub step-shown : OfStep k f e n (asks (WalkStep x)) (done (y .0 ∷ cells k (y .0) ∷ cells f (y .0) ∷ cells e (y .0) ∷ []))
     unfolding asks
     step-shown p a i b sp s l h =
-        let w = seen (tables k f e p n a i b sp) s l (h .carries) (step x l) (step-in x l) y (q .steps k f e p a i b sp s l h) in
+        let w = seen (tables k f e p n a i b sp) s l h (step x l) (step-in x l) y (q .steps k f e p a i b sp s l h) in
         (λ j. done (sym (w .2 .slot) j ∷ w .2 .key j ∷ w .2 .frequency j ∷ w .2 .epoch j ∷ [])) ∙ ap stepReply (sym (w .1))
 
     pub step-below : Walkable k f e n → (y .0 < 4096) × (y .0 < length k) × (y .0 < length f) × (y .0 < length e)
     step-below (p, a, i, b, sp, s, (l, h)) =
-        let w = seen (tables k f e p n a i b sp) s l (h .carries) (step x l) (step-in x l) y (q .steps k f e p a i b sp s l h) in
+        let w = seen (tables k f e p n a i b sp) s l h (step x l) (step-in x l) y (q .steps k f e p a i b sp s l h) in
         let below = w .2 .below in
-        let limit = h .carries .limit in
-        let ks = h .carries .sized .keys-size in
-        let fs = h .carries .sized .freqs-size in
-        let es = h .carries .sized .epochs-size in
+        let limit = h .limit in
+        let ks = h .sized .keys-size in
+        let fs = h .sized .freqs-size in
+        let es = h .sized .epochs-size in
         (omega arith, omega arith, omega arith, omega arith)
 
 -- `walk_start`
 
 module _ (k e b : List ℕ) (s : State) (g x : ℕ) (heads : Heads b (s .buckets) g x) where
   led-start : (f p n a i sp : List ℕ) (l : Ledger) → Holds (tables k f e p n a i b sp) s l → led x ≡ slotOf (start g l)
-  led-start f p n a i sp l h = ap led (heads .answer f p n sp _ (h .carries .lists)) ∙ start-led (tables k f e p n a i b sp) s l (h .carries) g
+  led-start f p n a i sp l h = ap led (heads .answer f p n sp _ (h .lists)) ∙ start-led (tables k f e p n a i b sp) s l h g
 
   pub start-past : x ≡ NONE → OfStart k e b s (asks (WalkStart g)) (done [])
   unfolding asks
@@ -197,9 +197,9 @@ module _ (k e b : List ℕ) (s : State) (g x : ℕ) (heads : Heads b (s .buckets
 
   module _ (d : x ≢ NONE) where
     at-start : (f p n a i sp : List ℕ) (l : Ledger) (h : Holds (tables k f e p n a i b sp) s l) →
-        (z : Item) × (start g l ≡ here z) × Stands (tables k f e p n a i b sp) s l (h .carries) z x
+        (z : Item) × (start g l ≡ here z) × Stands (tables k f e p n a i b sp) s l h z x
     at-start f p n a i sp l h =
-        seen (tables k f e p n a i b sp) s l (h .carries) (start g l) (λ z q. listOf-in g (l .levels) z (start-in g l z q)) (record { 0 = x })
+        seen (tables k f e p n a i b sp) s l h (start g l) (λ z q. listOf-in g (l .levels) z (start-in g l z q)) (record { 0 = x })
         (sym (if-other x NONE link.NoMore (link.At (record { 0 = x })) d) ∙ led-start f p n a i sp l h)
 
     pub start-shown : OfStart k e b s (asks (WalkStart g)) (done (x ∷ cells k x ∷ g ∷ cells e x ∷ []))
@@ -212,7 +212,7 @@ module _ (k e b : List ℕ) (s : State) (g x : ℕ) (heads : Heads b (s .buckets
     pub start-below : Startable k e b s → (x < 4096) × (x < length k) × (x < length e)
     start-below (f, p, n, a, i, sp, (l, h)) =
         let below = at-start f p n a i sp l h .2 .below in
-        let limit = h .carries .limit in
-        let ks = h .carries .sized .keys-size in
-        let es = h .carries .sized .epochs-size in
+        let limit = h .limit in
+        let ks = h .sized .keys-size in
+        let es = h .sized .epochs-size in
         (omega arith, omega arith, omega arith)

@@ -52,23 +52,23 @@ same-measures t vs c a len m = go (m .0) (m .1) (m .2)
 -- the free slots' values are 0 exactly when each slot has a value that it may have
 module _ (t : Tables) (s : State) (l : Ledger) (h : Holds t s l) (vs : List ℕ) (len : length vs ≡ s .capacity) where
   sizes : length vs ≡ length (t .arena)
-  sizes = let a = h .carries .sized .arena-size in let c = h .carries .capacity in omega arith
+  sizes = let a = h .sized .arena-size in let c = h .capacity in omega arith
 
   pub allowed-zeros : AllowedBelow (t .arena) vs (length vs) → (x : ℕ) → times x (l .free) ≡ 1 → getD vs x 0 ≡ 0
   allowed-zeros all x one =
       let z = sizes in
       by-lt x (length vs)
-      (λ b. all x b (λ u. absurd (let n = free-used (t .arena) (s .free) (l .free) (h .carries .free) x u in omega arith)))
-      (λ b. absurd (let n = free-past (t .arena) (s .free) (l .free) (h .carries .free) x (omega arith) in omega arith))
+      (λ b. all x b (λ u. absurd (let n = free-used (t .arena) (s .free) (l .free) (h .free) x u in omega arith)))
+      (λ b. absurd (let n = free-past (t .arena) (s .free) (l .free) (h .free) x (omega arith) in omega arith))
 
   pub zeros-allowed : ((x : ℕ) → times x (l .free) ≡ 1 → getD vs x 0 ≡ 0) → AllowedBelow (t .arena) vs (length vs)
-  zeros-allowed zeros x b n = let z = sizes in zeros x (free-unused (t .arena) (s .free) (l .free) (h .carries .free) x (omega arith) n)
+  zeros-allowed zeros x b n = let z = sizes in zeros x (free-unused (t .arena) (s .free) (l .free) (h .free) x (omega arith) n)
 
   pub allowed-holds : AllowedBelow (t .arena) vs (length vs) → CacheHolds (withValues t vs) s (record { table = l; values = vs })
   allowed-holds all = record {
     table = h;
     values = refl;
-    formed = record { table = h .carries .formed; fits = len ∙ h .carries .capacity; zeros = allowed-zeros all };
+    formed = record { table = h .formed; fits = len ∙ h .capacity; zeros = allowed-zeros all };
   }
 
 module _ (t : Tables) (vs : List ℕ) (s : State) (len : length vs ≡ s .capacity) (a : Answer) (done : Bool) (c : Checks buckets t s a) (told : (done ≡ true) ↔ (a ≡ Done)) where
@@ -85,7 +85,7 @@ module _ (t : Tables) (vs : List ℕ) (s : State) (len : length vs ≡ s .capaci
   -- their DONE: the values decide
   module _ (yes : done ≡ true) (ok : Bool) (looked : (ok ≡ true) ↔ AllowedBelow (t .arena) vs (length vs)) where
     fits : (l : Ledger) → Holds t s l → (s .capacity ≤ LIMIT) × (Sized t (s .capacity) × (length vs ≡ s .capacity))
-    fits l h = let lim = h .carries .limit in let e = h .carries .capacity in (omega arith, (subst (Sized t) (sym e) (h .carries .sized), len))
+    fits l h = let lim = h .limit in let e = h .capacity in (omega arith, (subst (Sized t) (sym e) (h .sized), len))
 
     pub values-refuse : ok ≡ false → (b : Answer) → b ≡ Corrupt → Checks cache (withValues t vs) s b
     values-refuse off b q =

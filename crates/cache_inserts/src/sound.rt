@@ -14,7 +14,6 @@ use answers::Insertion;
 use buckets_tables::State;
 use key_index::Found;
 use numbers::Answer;
-use numbers::Frequency;
 use numbers::Key;
 use numbers::NONE;
 use numbers::Slot;
@@ -114,7 +113,6 @@ fn enter(
         spares,
         state,
         key,
-        Frequency::FIRST,
     );
     let slot = placed.slot;
     let after = placed.state;

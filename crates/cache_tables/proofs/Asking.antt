@@ -33,7 +33,7 @@ module _ (find : Ledger → Option Item) (t : Tables) (s : State) (x : ℕ) (sou
   value-sized vs w =
       let a = sought (w .0 .table) (w .1 .table) .2 .below in
       let b = ap (λ (us : List ℕ). length us) (w .1 .values) ∙ w .1 .formed .fits in
-      let c = w .1 .table .carries .limit in
+      let c = w .1 .table .limit in
       (omega arith, omega arith)
 
   pub sought-bound : Sound buckets t s → BoundIn t s x
@@ -41,7 +41,7 @@ module _ (find : Ledger → Option Item) (t : Tables) (s : State) (x : ℕ) (sou
       let y = sought (w .0) (w .1) in
       record {
         ledger = w .0;
-        carries = w .1 .carries;
+        holds = w .1;
         bound = let c = in-sum (λ (z : Item). one (z .slot) x) (items (w .0 .levels)) (y .0) (y .2 .inside) in omega (arith, one-same (y .0 .slot) x (y .2 .slot));
       }
 
@@ -52,11 +52,11 @@ module _ (t : Tables) (s : State) (x key : ℕ) (w : Sound buckets t s) where
       let y = sought (w .0) (w .1) in
       record {
         ledger = w .0;
-        carries = w .1 .carries;
+        holds = w .1;
         guest = y .0;
         inside = y .2 .inside;
         slot = y .2 .slot;
-        absent = left-absent (w .0) (w .1 .carries .formed) key (y .0) (y .2 .inside) (found-in key (items (w .0 .levels)) (y .0) (y .1) .1);
+        absent = left-absent (w .0) (w .1 .formed) key (y .0) (y .2 .inside) (found-in key (items (w .0 .levels)) (y .0) (y .1) .1);
       }
 
   -- by a key that is not bound
@@ -65,15 +65,15 @@ module _ (t : Tables) (s : State) (x key : ℕ) (w : Sound buckets t s) where
       let y = sought (w .0) (w .1) in
       record {
         ledger = w .0;
-        carries = w .1 .carries;
+        holds = w .1;
         guest = y .0;
         inside = y .2 .inside;
         slot = y .2 .slot;
-        absent = still-absent (w .0) (w .1 .carries .formed) key (y .0) (y .2 .inside) (missed (w .0) (w .1));
+        absent = still-absent (w .0) (w .1 .formed) key (y .0) (y .2 .inside) (missed (w .0) (w .1));
       }
 
 -- there is a free slot for a key that is not bound
-pub new-room : (t : Tables) (s : State) (key : ℕ) → Sound buckets t s → Missed (lookup key) t s → s .free .first ≢ NONE → Room t s key 1
+pub new-room : (t : Tables) (s : State) (key : ℕ) → Sound buckets t s → Missed (lookup key) t s → s .free .first ≢ NONE → Room t s key
 new-room t s key w missed d =
-    let f = free-some t s (w .0) (w .1 .carries) d in
-    record { level = (omega arith, omega arith); ledger = w .0; rest = f .0; carries = w .1 .carries; absent = missed (w .0) (w .1); free-is = f .1 }
+    let f = free-some t s (w .0) (w .1) d in
+    record { ledger = w .0; rest = f .0; holds = w .1; absent = missed (w .0) (w .1); free-is = f .1 }

@@ -27,10 +27,10 @@ use Rattle.key_index.specs.declared.Found.the-variants.{At, Nothing}
 use Rattle.levels.specs.Levels as levels
 use Rattle.buckets_tables.specs.declared.State.{State}
 use Rattle.buckets_tables.specs.Tables.{Tables}
-use Rattle.buckets_tables.specs.Holds.{Carries, Holds}
+use Rattle.buckets_tables.specs.Holds.{Holds}
 use Rattle.buckets_tables.specs.Calls.{LetsGo}
 use Rattle.buckets_tables.proofs.Found.{Stands, found-at, found-nothing, lowest-nothing}
-use Rattle.buckets_tables.proofs.Doing.{let-go, least, stands-x}
+use Rattle.buckets_tables.proofs.Doing.{least, stands-x}
 use Rattle.buckets_tables.specs.Lent.{buckets}
 use Rattle.cache_tables.specs.Tables.{withValues}
 use Rattle.cache_tables.specs.Lent.{cache}
@@ -47,7 +47,7 @@ still-absent l w key y i e = of-unbound (release y l) (release-formed l w y i) k
 
 -- Where the sought item stands: in every ledger that the tables hold it is found, and stands in slot x; or it is found in none
 abbrev pub Sought : (Ledger → Option Item) → Tables → State → ℕ → Type 0
-Sought find t s x = (l : Ledger) (h : Holds t s l) → (y : Item) × (find l ≡ some y) × Stands t s l (h .carries) y x
+Sought find t s x = (l : Ledger) (h : Holds t s l) → (y : Item) × (find l ≡ some y) × Stands t s l h y x
 
 abbrev pub Missed : (Ledger → Option Item) → Tables → State → Type 0
 Missed find t s = (l : Ledger) → Holds t s l → find l ≡ none
@@ -56,17 +56,17 @@ abbrev pub least-item : Ledger → Option Item
 least-item l = lowest (l .levels)
 
 pub sought-key : (t : Tables) (s : State) (key : ℕ) (x : Slot) → index.Finds (t .index) (t .keys) key (At x) → Sought (lookup key) t s (x .0)
-sought-key t s key x f l h = let w = found-at t s l (h .carries) key x f in (w .item-is, w .found, w .there-is)
+sought-key t s key x f l h = let w = found-at t s l h key x f in (w .item-is, w .found, w .there-is)
 
 pub missed-key : (t : Tables) (s : State) (key : ℕ) → index.Finds (t .index) (t .keys) key Nothing → Missed (lookup key) t s
-missed-key t s key f l h = found-nothing t s l (h .carries) key f
+missed-key t s key f l h = found-nothing t s l h key f
 
-module _ (t : Tables) (s : State) (x : ℕ) (low : (l : Ledger) (h : Carries t s l) → x ≡ levels.lowest (h .slots)) where
+module _ (t : Tables) (s : State) (x : ℕ) (low : (l : Ledger) (h : Holds t s l) → x ≡ levels.lowest (h .slots)) where
   pub sought-least : x ≢ NONE → Sought least-item t s x
-  sought-least d l h = let w = least t s x low d l (h .carries) in (w .0, w .1 .is, stands-x t s x low d l (h .carries))
+  sought-least d l h = let w = least t s x low d l h in (w .0, w .1 .is, stands-x t s x low d l h)
 
   pub missed-least : x ≡ NONE → Missed least-item t s
-  missed-least e l h = lowest-nothing t s l (h .carries) (sym (low l (h .carries)) ∙ e)
+  missed-least e l h = lowest-nothing t s l h (sym (low l h) ∙ e)
 
 module _ (t : Tables) (vs : List ℕ) (s : State) where
   -- A key that is bound in slot x
@@ -95,7 +95,7 @@ module _ (t : Tables) (vs : List ℕ) (s : State) where
         let w = sought (c .table) (h .table) in
         rw (w .1) (
           ap (λ (n : ℕ). done (n ∷ [])) (value-at vs x c (w .0) (h .values) (w .2 .slot)),
-          let-go t s x t' s' gone (c .table) (h .table) (w .0) (w .2),
+          gone .holds (c .table) (w .0) (h .table) (w .2 .inside) (w .2 .slot),
           stored-at vs x 0 c (w .0) (h .values) (w .2 .slot),
         ))
 
@@ -111,7 +111,7 @@ module _ (t : Tables) (vs : List ℕ) (s : State) where
         rw (w .1) (
           λ i. done (w .2 .frequency i ∷ []),
           subst (λ (j : ℕ). Holds t' s' (put j (w .0 .slot) (c .table .free) (release (w .0) (c .table)))) (sym k)
-              (replaces .holds (c .table) (w .0) (h .table) (w .2 .inside) (w .2 .slot) (left-absent (c .table) (h .table .carries .formed) key (w .0) (w .2 .inside) k)),
+              (replaces .holds (c .table) (w .0) (h .table) (w .2 .inside) (w .2 .slot) (left-absent (c .table) (h .table .formed) key (w .0) (w .2 .inside) k)),
           h .values ∙ sym (set-set (c .values) (w .0 .slot) 0 (getD (c .values) (w .0 .slot) 0) ∙ set-getD (c .values) (w .0 .slot) 0),
         ))
 
@@ -159,6 +159,6 @@ module _ (t : Tables) (vs : List ℕ) (s : State) where
         let w = sought (c .table) (h .table) in
         rw (w .1) (
           λ i. done (w .2 .key i ∷ value-at vs x c (w .0) (h .values) (w .2 .slot) i ∷ []),
-          let-go t s x t' s' gone (c .table) (h .table) (w .0) (w .2),
+          gone .holds (c .table) (w .0) (h .table) (w .2 .inside) (w .2 .slot),
           stored-at vs x 0 c (w .0) (h .values) (w .2 .slot),
         ))

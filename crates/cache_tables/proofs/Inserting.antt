@@ -22,7 +22,7 @@ use Rattle.buckets_tables.specs.declared.Placed.{Placed}
 use Rattle.buckets_tables.specs.Tables.{Tables}
 use Rattle.buckets_tables.specs.Holds.{Holds}
 use Rattle.buckets_tables.specs.Calls.{Binds}
-use Rattle.buckets_tables.proofs.Doing.{free-some, bind-holds}
+use Rattle.buckets_tables.proofs.Doing.{free-some}
 use Rattle.cache_tables.specs.Tables.{withValues}
 use Rattle.cache_tables.specs.Lent.{cache}
 use Rattle.cache_tables.specs.Steps.{Replaces}
@@ -31,7 +31,7 @@ use Rattle.cache_tables.proofs.Caching.{Sought, Missed, least-item, sti
 
 -- no slot is free where the order begins with NONE
 none-free : (t : Tables) (s : State) (l : Ledger) → Holds t s l → s .free .first ≡ NONE → l .free ≡ []
-none-free t s l h e = first-none (t .arena) (s .free) (l .free) (h .carries .free) .1 e
+none-free t s l h e = first-none (t .arena) (s .free) (l .free) (h .free) .1 e
 
 module _ (t : Tables) (vs : List ℕ) (s : State) (key v : ℕ) where
   -- the value is replaced, and nothing else
@@ -48,17 +48,17 @@ module _ (t : Tables) (vs : List ℕ) (s : State) (key v : ℕ) where
       ))
 
   module _ (missed : Missed (lookup key) t s) where
-    pub insert-new : s .free .first ≢ NONE → (t' : Tables) (r : Placed) → Binds t s key 1 t' r →
+    pub insert-new : s .free .first ≢ NONE → (t' : Tables) (r : Placed) → Binds t s key t' r →
         Does cache (cacheCalls (Insert key v)) (withValues t vs) s (done (0 ∷ [])) (withValues t' (set vs (r .slot .0) v)) (r .state)
     unfolding does cacheInsert
     insert-new d t' r binds =
         cache-done (Insert key v) t vs s (0 ∷ []) t' (set vs (r .slot .0) v) (r .state)
         (λ c h.
         let e = missed (c .table) (h .table) in
-        let f = free-some t s (c .table) (h .table .carries) d in
+        let f = free-some t s (c .table) (h .table) d in
         rw (e, f .1) (
           refl,
-          bind-holds t s key 1 t' r binds (c .table) (h .table) (f .0) e (f .1) (omega arith) (omega arith),
+          binds .holds (c .table) (f .0) (h .table) e (f .1),
           λ i. set (h .values i) (binds .slot i) v,
         ))
 
@@ -73,7 +73,7 @@ module _ (t : Tables) (vs : List ℕ) (s : State) (key v : ℕ) where
       pub insert-full : Missed least-item t s → Does cache (cacheCalls (Insert key v)) (withValues t vs) s (refused Full) (withValues t (set vs NONE v)) s
       insert-full empty c h =
           let a = ap (λ (us : List ℕ). length us) (h .values) ∙ h .formed .fits in
-          let b = h .table .carries .limit in
+          let b = h .table .limit in
           subst (λ (us : List ℕ). DoesOn cache (cacheCalls (Insert key v)) (withValues t vs) s c (refused Full) (withValues t us) s) (sym (set-out vs NONE v (omega arith)))
           (insert-refused empty c h)
 
@@ -86,7 +86,7 @@ module _ (t : Tables) (vs : List ℕ) (s : State) (key v : ℕ) where
           let e = missed (c .table) (h .table) in
           let f = none-free t s (c .table) (h .table) full in
           let w = sought (c .table) (h .table) in
-          let k = replaces .holds (c .table) (w .0) (h .table) (w .2 .inside) (w .2 .slot) (still-absent (c .table) (h .table .carries .formed) key (w .0) (w .2 .inside) e) in
+          let k = replaces .holds (c .table) (w .0) (h .table) (w .2 .inside) (w .2 .slot) (still-absent (c .table) (h .table .formed) key (w .0) (w .2 .inside) e) in
           rw (e, f, w .1) (
             λ i. done (1 ∷ w .2 .key i ∷ []),
             subst (λ (fr : List ℕ). Holds t' s' (put key (w .0 .slot) fr (release (w .0) (c .table)))) f k,

@@ -6,47 +6,44 @@ use native.Mathlib.Omega.{arith}
 use Rattle.lists.specs.Lists.{one}
 use Rattle.lists.proofs.Tests.{one-same}
 use Rattle.lists.proofs.Members.{in-sum}
-use Rattle.ledger.specs.Ledger.{Ledger, Item, items, putAt, release}
+use Rattle.ledger.specs.Ledger.{Ledger, Item, items, put, release}
 use Rattle.slot_arena.proofs.Free.{first-slot}
 use Rattle.buckets_tables.specs.declared.State.{State}
 use Rattle.buckets_tables.specs.declared.Placed.{Placed}
 use Rattle.buckets_tables.specs.Tables.{Tables}
-use Rattle.buckets_tables.specs.Holds.{Carries, Holds}
+use Rattle.buckets_tables.specs.Holds.{Holds}
 use Rattle.buckets_tables.specs.Calls.{Room, Binds, BoundIn, LetsGo}
-use Rattle.buckets_tables.proofs.Found.{Stands, stands}
-use Rattle.buckets_tables.proofs.Doing.{bind-holds, let-go}
 use Rattle.cache_tables.specs.Steps.{Replaceable, Replaces}
 
 -- the slot let go is first
-first-left : (t : Tables) (s : State) (l : Ledger) (y : Item) → Carries t s (release y l) → s .free .first ≡ y .slot
+first-left : (t : Tables) (s : State) (l : Ledger) (y : Item) → Holds t s (release y l) → s .free .first ≡ y .slot
 first-left t s l y h = first-slot (t .arena) (s .free) (y .slot) (l .free) (h .free) .0
 
 module _ (t : Tables) (s : State) (x key : ℕ) where
   pub replace-bound : Replaceable t s x key → BoundIn t s x
   replace-bound r = record {
     ledger = r .ledger;
-    carries = r .carries;
+    holds = r .holds;
     bound = let c = in-sum (λ (z : Item). one (z .slot) x) (items (r .ledger .levels)) (r .guest) (r .inside) in omega (arith, one-same (r .guest .slot) x (r .slot));
   }
 
   module _ (t₁ : Tables) (s₁ : State) (gone : LetsGo t s x t₁ s₁) where
-    pub replace-room : Replaceable t s x key → Room t₁ s₁ key 1
+    pub replace-room : Replaceable t s x key → Room t₁ s₁ key
     replace-room r =
-        let h = gone .carries (r .ledger) (r .guest) (r .carries) (r .inside) (r .slot) in
+        let h = gone .holds (r .ledger) (r .guest) (r .holds) (r .inside) (r .slot) in
         record {
-          level = (omega arith, omega arith);
           ledger = release (r .guest) (r .ledger);
           rest = r .ledger .free;
-          carries = h;
+          holds = h;
           absent = r .absent;
           free-is = λ i. sym (first-left t₁ s₁ (r .ledger) (r .guest) h) i ∷ r .ledger .free;
         }
 
-    pub replaced : (t₂ : Tables) (p : Placed) → Binds t₁ s₁ key 1 t₂ p → Replaces t s x key t₂ (p .state)
+    pub replaced : (t₂ : Tables) (p : Placed) → Binds t₁ s₁ key t₂ p → Replaces t s x key t₂ (p .state)
     replaced t₂ p binds = record {
       holds = λ l y h i e absent.
-          let k = let-go t s x t₁ s₁ gone l h y (subst (Stands t s l (h .carries) y) e (stands t s l (h .carries) y i)) in
-          let q = first-left t₁ s₁ l y (k .carries) in
-          subst (λ z. Holds t₂ (p .state) (putAt 1 key z (l .free) (release y l))) q
-          (bind-holds t₁ s₁ key 1 t₂ p binds (release y l) k (l .free) absent (λ j. sym q j ∷ l .free) (omega arith) (omega arith));
+          let k = gone .holds l y h i e in
+          let q = first-left t₁ s₁ l y k in
+          subst (λ z. Holds t₂ (p .state) (put key z (l .free) (release y l))) q
+          (binds .holds (release y l) (l .free) k absent (λ j. sym q j ∷ l .free));
     }

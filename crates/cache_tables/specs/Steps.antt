@@ -7,12 +7,12 @@ use Rattle.lists.specs.Lists.{In}
 use Rattle.ledger.specs.Ledger.{Ledger, Item, items, lookup, put, release}
 use Rattle.buckets_tables.specs.declared.State.{State}
 use Rattle.buckets_tables.specs.Tables.{Tables}
-use Rattle.buckets_tables.specs.Holds.{Carries, Holds}
+use Rattle.buckets_tables.specs.Holds.{Holds}
 
 -- an item stands in slot x, and once it is let go the key is absent
 pub record Replaceable (t : Tables) (s : State) (x key : ℕ) : Type 0 where
   pub ledger : Ledger
-  pub carries : Carries t s ledger
+  pub holds : Holds t s ledger
   pub guest : Item
   pub inside : In guest (items (ledger .levels))
   pub slot : guest .slot ≡ x

@@ -2,7 +2,6 @@
 ghost use Rattle.buckets_tables.specs.Slices.{lent, before, after};
 ghost use Rattle.cache_tables.specs.Steps.{Replaceable, Replaces};
 use buckets_tables::State;
-use numbers::Frequency;
 use numbers::Key;
 use numbers::Slot;
 
@@ -51,7 +50,6 @@ pub fn replace(
         spares,
         left,
         key,
-        Frequency::FIRST,
     );
     placed.state
 }

@@ -2,7 +2,7 @@
 use mathlib.Core.Path.{_≡_, refl}
 use mathlib.Core.List.{map}
 use Rattle.ledger.specs.Buckets.{insert, touch, remove, popMin, currentEpoch, setEpoch, advanceEpoch}
-use Rattle.ledger.specs.Rebuild.{rebuild, decayHalve, rebaseMinFreq}
+use Rattle.ledger.specs.Regroup.{decayHalveTimes, decayHalve, rebaseMinFreq}
 use Rattle.ledger.specs.BucketCalls.{asks, calls}
 use Rattle.ledger.specs.Cache.{cacheInsert, cacheGet, cachePeekLfu, cacheLen}
 use Rattle.ledger.specs.History.{does}
@@ -11,5 +11,5 @@ use Rattle.trace.specs.Output.{ended, reads, runs, headerOf, output}
 use Rattle.cases.specs.Cases.{run, cases}
 
 pub twelve-cases : map run cases ≡ cases
-unfolding asks calls insert touch remove popMin currentEpoch setEpoch advanceEpoch rebuild decayHalve rebaseMinFreq output headerOf runs reads ended step tells decimal does cacheInsert cacheGet cachePeekLfu cacheLen
+unfolding asks calls insert touch remove popMin currentEpoch setEpoch advanceEpoch decayHalveTimes decayHalve rebaseMinFreq output headerOf runs reads ended step tells decimal does cacheInsert cacheGet cachePeekLfu cacheLen
 twelve-cases = refl

@@ -142,12 +142,12 @@ c6 = buckets (new 4) (Insert 1 gives ok ∷ Insert 2 gives ok ∷ Touch 0 1 give
 abbrev c7 : Case
 c7 = buckets (new 4) (Insert 5 gives ok ∷ Touch CEILING 5 gives number 2 ∷ Touch CEILING 5 gives number 3 ∷ Touch 2 5 gives number 3 ∷ [])
 
--- insert 1, 2, 3, touch 1 twice and 2 once, halve: 1:[3,2,1]
+-- insert 1, 2, 3, touch 1 twice and 2 once, halve: 1:[1,2,3]
 abbrev c8 : Case
 c8 =
     buckets (new 4)
     (Insert 1 gives ok ∷ Insert 2 gives ok ∷ Insert 3 gives ok ∷ Touch CEILING 1 gives number 2 ∷ Touch CEILING 1 gives number 3 ∷ Touch CEILING 2 gives number 2
-    ∷ DecayHalve gives ok ∷ shows "1:[3,2,1]" ∷ [])
+    ∷ DecayHalve gives ok ∷ shows "1:[1,2,3]" ∷ [])
 
 -- capacity 2, insert 1, 2, 3: FULL; remove 1, insert 3: slot 0
 abbrev c9 : Case

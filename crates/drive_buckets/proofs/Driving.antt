@@ -13,7 +13,7 @@ use Rattle.buckets_tables.specs.Tables.{Tables}
 use Rattle.buckets_tables.specs.Lent.{buckets}
 use Rattle.drive_lines.specs.declared.Told.{Told}
 use Rattle.drive_lines.specs.Lines.{text, replyText}
-use Rattle.drive_buckets.specs.Operations.{queryCall, epochCall, wholeCall, bucketCall, batchCall, DrivesBuckets}
+use Rattle.drive_buckets.specs.Operations.{queryCall, epochCall, decayCall, wholeCall, bucketCall, batchCall, DrivesBuckets}
 
 module _ (t : Tables) (s : State) (told : Told) (t' : Tables) (s' : State) where
   -- the call that an operation names was made, and its line is told
@@ -37,8 +37,11 @@ module _ (code a : ℕ) where
     pub no-epoch : (code ≡ 10 → ⊥) → (code ≡ 12 → ⊥) → (code ≡ 13 → ⊥) → epochCall code a b ≡ queryCall code a
     no-epoch n10 n12 n13 = rw (ne-eqb code 10 n10, ne-eqb code 12 n12, ne-eqb code 13 n13)
 
-    pub not-whole : (code ≡ 17 → ⊥) → (code ≡ 18 → ⊥) → (code ≡ 19 → ⊥) → wholeCall code a b ≡ epochCall code a b
-    not-whole n17 n18 n19 = rw (ne-eqb code 17 n17, ne-eqb code 18 n18, ne-eqb code 19 n19)
+    pub no-decay : (code ≡ 17 → ⊥) → (code ≡ 18 → ⊥) → (code ≡ 22 → ⊥) → decayCall code a b ≡ epochCall code a b
+    no-decay n17 n18 n22 = rw (ne-eqb code 17 n17, ne-eqb code 18 n18, ne-eqb code 22 n22)
+
+    pub not-whole : (code ≡ 19 → ⊥) → wholeCall code a b ≡ decayCall code a b
+    not-whole n19 = rw (ne-eqb code 19 n19)
 
     pub no-key : (code ≡ 1 → ⊥) → (code ≡ 2 → ⊥) → (code ≡ 3 → ⊥) → (code ≡ 4 → ⊥) → (code ≡ 5 → ⊥) → bucketCall code a b ≡ wholeCall code a b
     no-key n1 n2 n3 n4 n5 = rw (ne-eqb code 1 n1, ne-eqb code 2 n2, ne-eqb code 3 n3, ne-eqb code 4 n4, ne-eqb code 5 n5)

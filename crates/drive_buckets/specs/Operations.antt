@@ -7,7 +7,7 @@ use Prim.Native.Nat.{ℕ, zero, suc, _+_, _^_, _%_}
 use lib.Dec.{eqb}
 use Rattle.numbers.specs.Frequency.{CEILING}
 use Rattle.ledger.specs.Buckets.{Reply}
-use Rattle.ledger.specs.BucketCalls.{BucketCall, Ask, PeekMin, MinFreq, Frequency, EntryEpoch, CurrentEpoch, Len, IsEmpty, Contains, Insert, Touch, Remove, PopMin, SetEntryEpoch, SetEpoch, AdvanceEpoch, DecayHalve, RebaseMinFreq, Clear, InsertBatch, TouchBatch, RemoveBatch}
+use Rattle.ledger.specs.BucketCalls.{BucketCall, Ask, PeekMin, MinFreq, Frequency, EntryEpoch, CurrentEpoch, Len, IsEmpty, Contains, Insert, Touch, Remove, PopMin, SetEntryEpoch, SetEpoch, AdvanceEpoch, DecayHalve, DecayHalveTimes, RebaseMinFreq, Clear, InsertBatch, TouchBatch, RemoveBatch}
 use Rattle.promise.specs.Promise.{Makes}
 use Rattle.buckets_tables.specs.declared.State.{State}
 use Rattle.buckets_tables.specs.Tables.{Tables}
@@ -37,14 +37,18 @@ epochCall code a b =
     (cond (eqb code 12) (some (SetEpoch a))
     (cond (eqb code 13) (some AdvanceEpoch) (queryCall code a)))
 
--- and those on every key
-abbrev pub wholeCall : (code a b : ℕ) → Option BucketCall
-wholeCall code a b =
+-- and those that give every key another frequency
+abbrev pub decayCall : (code a b : ℕ) → Option BucketCall
+decayCall code a b =
     cond (eqb code 17) (some DecayHalve)
     (cond (eqb code 18) (some RebaseMinFreq)
-    (cond (eqb code 19) (some Clear) (epochCall code a b)))
+    (cond (eqb code 22) (some (DecayHalveTimes a)) (epochCall code a b)))
 
--- and those on one key: all of 1 to 19
+-- and clearing
+abbrev pub wholeCall : (code a b : ℕ) → Option BucketCall
+wholeCall code a b = cond (eqb code 19) (some Clear) (decayCall code a b)
+
+-- and those on one key: all of 1 to 19, and 22
 abbrev pub bucketCall : (code a b : ℕ) → Option BucketCall
 bucketCall code a b =
     cond (eqb code 1) (some (Insert a))

@@ -1,7 +1,7 @@
 // The operations that are not about one key: on every key, on epochs, and those that only answer. Each function has those of its kind, and
 // sends the others on. The tables have the names of lib.rt.
 ghost use Rattle.buckets_tables.specs.Slices.{before, after};
-ghost use Rattle.drive_buckets.specs.Operations.{queryCall, epochCall, wholeCall, DrivesBuckets};
+ghost use Rattle.drive_buckets.specs.Operations.{queryCall, epochCall, decayCall, wholeCall, DrivesBuckets};
 use crate::after::dated;
 use buckets_tables::State;
 use drive_lines::Driven;
@@ -14,12 +14,13 @@ use drive_lines::epoch;
 use drive_lines::least;
 use drive_lines::level;
 use drive_lines::plain;
+use frequency_buckets_decay::decay_halve;
+use frequency_buckets_decay::decay_halve_times;
+use frequency_buckets_decay::rebase_min_freq;
 use frequency_buckets_epochs::advance_epoch;
 use frequency_buckets_epochs::set_entry_epoch;
 use frequency_buckets_epochs::set_epoch;
 use frequency_buckets_make::clear;
-use frequency_buckets_make::decay_halve;
-use frequency_buckets_make::rebase_min_freq;
 use frequency_buckets_queries::contains;
 use frequency_buckets_queries::current_epoch;
 use frequency_buckets_queries::entry_epoch;
@@ -95,7 +96,49 @@ pub(crate) fn dates(
     }
 }
 
-// 17 to 19: the operations on every key.
+// 17, 18 and 22: the operations that give every key another frequency.
+pub(crate) fn decays(
+    k: &[u64],
+    f: &mut [u64],
+    e: &mut [u64],
+    p: &mut [u64],
+    n: &mut [u64],
+    ar: &[u64],
+    ix: &[u64],
+    bk: &mut [u64],
+    sp: &mut [u64],
+    state: State,
+    code: u8,
+    a: u64,
+    b: u64,
+) -> Driven
+    ensures { λ r. ⌜ DrivesBuckets (decayCall code a b)
+        (before k f e p n ar ix bk sp) state (r .told)
+        (after k f e p n ar ix bk sp) (r .state) ⌝ }
+{
+    match code {
+        17 => stored(decay_halve(k, f, &e[..], p, n, ar, ix, bk, sp, state)),
+        18 => stored(rebase_min_freq(k, f, &e[..], p, n, ar, ix, bk, sp, state)),
+        22 => stored(decay_halve_times(k, f, &e[..], p, n, ar, ix, bk, sp, state, a)),
+        _ => dates(
+            k,
+            &f[..],
+            e,
+            &p[..],
+            &n[..],
+            ar,
+            ix,
+            &bk[..],
+            &sp[..],
+            state,
+            code,
+            a,
+            b,
+        ),
+    }
+}
+
+// 19, and the other operations but those on one key.
 pub(crate) fn whole(
     k: &mut [u64],
     f: &mut [u64],
@@ -116,19 +159,17 @@ pub(crate) fn whole(
         (after k f e p n ar ix bk sp) (r .state) ⌝ }
 {
     match code {
-        17 => stored(decay_halve(k, f, e, p, n, ar, ix, bk, sp, state)),
-        18 => stored(rebase_min_freq(k, f, e, p, n, ar, ix, bk, sp, state)),
         19 => stored(clear(k, f, e, p, n, ar, ix, &bk[..], sp, state)),
-        _ => dates(
+        _ => decays(
             &k[..],
-            &f[..],
+            f,
             e,
-            &p[..],
-            &n[..],
+            p,
+            n,
             &ar[..],
             &ix[..],
-            &bk[..],
-            &sp[..],
+            bk,
+            sp,
             state,
             code,
             a,

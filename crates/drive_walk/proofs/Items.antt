@@ -35,11 +35,11 @@ module _ (k e n : List ℕ) (h : Listable k e n) where
   linked = let (f, p, a, i, b, sp, s, held) = h in (k, f, e, p, a, i, b, sp, s, held)
 
   pub sizes : (length k ≤ LIMIT) × (length e ≡ length k)
-  sizes = let c = h .7 .1 .carries in (omega (arith, c .limit, c .sized .keys-size), c .sized .epochs-size ∙ sym (c .sized .keys-size))
+  sizes = let c = h .7 .1 in (omega (arith, c .limit, c .sized .keys-size), c .sized .epochs-size ∙ sym (c .sized .keys-size))
 
   -- a step answers only slots that have a place
   pub placed : (st st' : Stand) → Onward n st st' → Placed k st'
-  placed st st' w x q = h .7 .1 .carries .indexed (x .0) .1 (w .bound x q k (h .0) e (h .1) (h .2) (h .3) (h .4) (h .5) (h .6) (h .7 .0) (h .7 .1)) .0
+  placed st st' w x q = h .7 .1 .indexed (x .0) .1 (w .bound x q k (h .0) e (h .1) (h .2) (h .3) (h .4) (h .5) (h .6) (h .7 .0) (h .7 .1)) .0
 
 -- Where nothing is left
 

@@ -112,16 +112,16 @@ module _ (k f e p n a i b sp : List ℕ) (s : State) (g : ℕ) (first : Stand) w
       let xs = listOf g (l .levels) in
       let small : length k ≤ LIMIT = omega (arith, w .1 .0, w .1 .1 .keys-size) in
       let shown = walker-shows k f e p n a i b sp s l h g first starts in
-      let there : (x : Item) → In x xs → Stands t s l (h .carries) x (x .slot) = λ x j. stands t s l (h .carries) x (listOf-in g (l .levels) x j) in
+      let there : (x : Item) → In x xs → Stands t s l h x (x .slot) = λ x j. stands t s l h x (listOf-in g (l .levels) x j) in
       record {
         held = l;
         reads = w .1;
         limited = small;
         listable = (f, p, a, i, b, sp, s, (l, h));
-        placed = begins-placed k n first xs (in-all (λ x. x .slot < length k) xs (λ x j. omega (arith, there x j .below, h .carries .sized .keys-size))) shown;
+        placed = begins-placed k n first xs (in-all (λ x. x .slot < length k) xs (λ x j. omega (arith, there x j .below, h .sized .keys-size))) shown;
         listed = λ out at out' r z. record {
           writes = z .writes xs shown (in-all (Says k e) xs (λ x j. (there x j .key, there x j .epoch)))
-              (omega (arith, list-short g (l .levels), size-and-free l (h .carries .formed), h .carries .sized .keys-size));
+              (omega (arith, list-short g (l .levels), size-and-free l (h .formed), h .sized .keys-size));
           short = omega (arith, z .room, small);
         };
       }

@@ -15,7 +15,7 @@ use Rattle.buckets_tables.specs.declared.State.{State}
 use Rattle.buckets_tables.specs.Tables.{Tables, tables}
 use Rattle.buckets_tables.specs.Calls.{Fitting, Cleared}
 use Rattle.buckets_tables.specs.Lent.{buckets, nothing}
-use Rattle.buckets_rebuild.proofs.Renewed.{sized-fitting}
+use Rattle.buckets_tables.proofs.Clearing.{sized-fitting}
 
 module _ (t : Tables) (c : ℕ) (a : Answer) (done : Bool) (m : Measures buckets t c a) (told : (done ≡ true) ↔ (a ≡ Done)) where
   pub fitting : done ≡ true → Fitting (t .keys) (t .freqs) (t .epochs) (t .prevs) (t .nexts) (t .arena) (t .index) (t .spares) c

@@ -1,5 +1,4 @@
-// The calls of `FrequencyBuckets` on whole tables: making them, which takes any contents, clearing them, and giving every key another
-// frequency.
+// The calls of `FrequencyBuckets` on whole tables: making them, which takes any contents, and clearing them.
 ghost use Rattle.ledger.specs.Ledger as ledger;
 ghost use Rattle.ledger.specs.BucketCalls as calls;
 ghost use Rattle.promise.specs.Promise.{Makes};
@@ -41,7 +40,7 @@ pub fn new(
         capacity,
     );
     if why.is_done() {
-        let made = buckets_rebuild::sound::make(
+        let made = buckets_tables::sound::make(
             keys,
             freqs,
             epochs,
@@ -93,7 +92,7 @@ pub fn clear(
         state,
     );
     if why.is_done() {
-        let made = buckets_rebuild::sound::make(
+        let made = buckets_tables::sound::make(
             keys,
             freqs,
             epochs,
@@ -107,112 +106,6 @@ pub fn clear(
         return Stored {
             answer: Answer::Done,
             state: made,
-        };
-    }
-    Stored {
-        answer: why,
-        state: state,
-    }
-}
-
-// Halves every frequency, but to no less than 1.
-pub fn decay_halve(
-    keys: &mut [u64],
-    freqs: &mut [u64],
-    epochs: &mut [u64],
-    prevs: &mut [u64],
-    nexts: &mut [u64],
-    arena: &mut [u64],
-    index: &mut [u64],
-    buckets: &mut [u64],
-    spares: &mut [u64],
-    state: State,
-) -> Stored
-    ensures { λ r. ⌜ Makes kind.buckets calls.DecayHalve
-        (before keys freqs epochs prevs nexts arena index buckets spares) state (plainReply (r .answer))
-        (after keys freqs epochs prevs nexts arena index buckets spares) (r .state) ⌝ }
-{
-    let why = buckets_check::refusal(
-        &keys[..],
-        &freqs[..],
-        &epochs[..],
-        &prevs[..],
-        &nexts[..],
-        &arena[..],
-        &index[..],
-        &buckets[..],
-        &spares[..],
-        state,
-    );
-    if why.is_done() {
-        let after = buckets_rebuild::sound::decay_halve(
-            keys,
-            freqs,
-            epochs,
-            prevs,
-            nexts,
-            arena,
-            index,
-            buckets,
-            spares,
-            state,
-        );
-        return Stored {
-            answer: Answer::Done,
-            state: after,
-        };
-    }
-    Stored {
-        answer: why,
-        state: state,
-    }
-}
-
-// Lowers every frequency by one number, so that the lowest is 1.
-pub fn rebase_min_freq(
-    keys: &mut [u64],
-    freqs: &mut [u64],
-    epochs: &mut [u64],
-    prevs: &mut [u64],
-    nexts: &mut [u64],
-    arena: &mut [u64],
-    index: &mut [u64],
-    buckets: &mut [u64],
-    spares: &mut [u64],
-    state: State,
-) -> Stored
-    ensures { λ r. ⌜ Makes kind.buckets calls.RebaseMinFreq
-        (before keys freqs epochs prevs nexts arena index buckets spares) state (plainReply (r .answer))
-        (after keys freqs epochs prevs nexts arena index buckets spares) (r .state) ⌝ }
-{
-    let why = buckets_check::refusal(
-        &keys[..],
-        &freqs[..],
-        &epochs[..],
-        &prevs[..],
-        &nexts[..],
-        &arena[..],
-        &index[..],
-        &buckets[..],
-        &spares[..],
-        state,
-    );
-    if why.is_done() {
-        let after = buckets_rebuild::sound::rebase_min_freq(
-            keys,
-            freqs,
-            epochs,
-            prevs,
-            nexts,
-            arena,
-            index,
-            buckets,
-            spares,
-            state,
-        );
-        return Stored {
-            answer: Answer::Done,
-            state: after,
         };
     }
     Stored {

@@ -121,7 +121,7 @@ stands-told t s walk r l h w =
     w .stands ∙ ap standOf (reached-injective (r .answer) (told (walk l)) (subst (By lent.buckets (λ m. shows (walk m) m) t s (reachedReply (r .answer)) t s) reading (w .promised .2) .answer))
   where
     reading : w .promised .0 ≡ ledger l
-    reading = reads-one lent.buckets holds-one t s (w .promised .0) (ledger l) (w .promised .1) (let c = h .carries .capacity in let m = h .carries .limit in omega arith, subst (Sized t) (sym (h .carries .capacity)) (h .carries .sized), h)
+    reading = reads-one lent.buckets holds-one t s (w .promised .0) (ledger l) (w .promised .1) (let c = h .capacity in let m = h .limit in omega arith, subst (Sized t) (sym (h .capacity)) (h .sized), h)
 
 -- ---- the walker after n steps
 
@@ -147,7 +147,7 @@ nth-more k f e p n a i b sp s g m at r d h w =
     let holds = found .1 .2 in
     let xs : List Item = listOf g (l .levels) in
     let here-so : at .slot .0 ≡ slotAt (nthOf xs m) = ap (λ (z : Stand). z .slot .0) (stands-told t s (λ l. nthOf (listOf g (l .levels)) m) at l holds h) in
-    let on : step (at .slot .0) l ≡ nthOf xs (m + 1) = ap (λ (x : ℕ). step x l) here-so ∙ step-nth l (holds .carries .formed) (holds .carries .limit) g [] xs refl m in
+    let on : step (at .slot .0) l ≡ nthOf xs (m + 1) = ap (λ (x : ℕ). step x l) here-so ∙ step-nth l (holds .formed) (holds .limit) g [] xs refl m in
     stands-by t s (λ l. nthOf (listOf g (l .levels)) (m + 1)) (ofLink (w .after)) r (w .stands) (
       ledger l,
       found .1,

@@ -34,7 +34,7 @@ module _ (k f e p n a i b sp : List ℕ) (s : State) (l : Ledger) (h : Holds (ta
   -- from out of range it is ABSENT, and stays out of range
   pub stays-out : (r q : Stand) → r .slot .0 ≡ NOWHERE → Steps n r q → (q .answer ≡ Refused Absent) × (q .slot .0 ≡ NOWHERE)
   stays-out r q j w =
-      let z : q ≡ standOf (Refused Absent) = stepped r q w NOWHERE j ∙ ap (λ (st : Step). standOf (told st)) (step-out l (h .carries .formed) (h .carries .limit) 0) in
+      let z : q ≡ standOf (Refused Absent) = stepped r q w NOWHERE j ∙ ap (λ (st : Step). standOf (told st)) (step-out l (h .formed) (h .limit) 0) in
       (ap (λ (y : Stand). y .answer) z, ap (λ (y : Stand). y .slot .0) z)
 
   shows-from : (g : ℕ) (ps xs : List Item) → listOf g (l .levels) ≡ ps ++ xs → (r : Stand) → r ≡ standOf (told (head xs)) → Shows n r xs
@@ -43,7 +43,7 @@ module _ (k f e p n a i b sp : List ℕ) (s : State) (l : Ledger) (h : Holds (ta
     ap (λ (y : Stand). y .answer) z,
     λ q w.
         shows-from g (ps ++ x ∷ []) xs (j ∙ sym (append-assoc ps (x ∷ []) xs)) q
-        (stepped r q w (x .slot) (ap (λ (y : Stand). y .slot .0) z) ∙ ap (λ (st : Step). standOf (told st)) (step-on l (h .carries .formed) (h .carries .limit) g ps x xs j)),
+        (stepped r q w (x .slot) (ap (λ (y : Stand). y .slot .0) z) ∙ ap (λ (st : Step). standOf (told st)) (step-on l (h .formed) (h .limit) g ps x xs j)),
   )
 
   -- The walk of a frequency shows exactly the ledger's list.

@@ -6,11 +6,11 @@ use mathlib.Core.List.{List, [], _∷_}
 use Prim.Native.Nat.{ℕ, _+_, _≤_}
 use native.Mathlib.Omega.{arith}
 use lib.Dec.{eqb}
-use Rattle.numbers.specs.Frequency.{CEILING, raised}
+use Rattle.numbers.specs.Frequency.{FIRST, CEILING, raised}
 use Rattle.lists.specs.Lists.{In, sum, one, times}
 use Rattle.lists.proofs.Tests.{if-eq, if-lt}
 use Rattle.lists.proofs.Members.{all-in}
-use Rattle.ledger.specs.Ledger.{Entry, Level, Ledger, Item, new, item, tag, items, unlink, putAt, put, release, move, NonEmpty, Rising, keyed, WellFormed}
+use Rattle.ledger.specs.Ledger.{Entry, Level, Ledger, Item, new, item, tag, items, unlink, put, release, move, NonEmpty, Rising, keyed, WellFormed}
 use Rattle.ledger.specs.Buckets.{dated, redated, atEpoch}
 use Rattle.ledger.proofs.Items.{place, cut, items-unlink, items-link, sum-place, sum-cut-in, keyed-cut-same, keyed-cut-le}
 use Rattle.ledger.proofs.Rising.{rising-unlink, rising-link, Within, all-within}
@@ -44,26 +44,23 @@ items-move x f l r =
     ∙ ap (place (item f e)) (items-unlink (x .key) (l .levels))
 
 module _ (l : Ledger) (w : WellFormed l) where
-  pub putAt-formed : (f k s : ℕ) (rest : List ℕ) → 1 ≤ f → f ≤ CEILING → keyed k (items (l .levels)) ≡ 0 → l .free ≡ s ∷ rest → WellFormed (putAt f k s rest l)
-  putAt-formed f k s rest lo hi h e =
+  pub put-formed : (k s : ℕ) (rest : List ℕ) → keyed k (items (l .levels)) ≡ 0 → l .free ≡ s ∷ rest → WellFormed (put k s rest l)
+  put-formed k s rest h e =
       let x : Entry = record { key = k; slot = s; epoch = l .epoch } in
-      let p = items-link f x 0 (l .levels) (w .rising) in
+      let p = items-link FIRST x 0 (l .levels) (w .rising) in
       record {
-        rising = rising-link f x 0 (l .levels) lo hi (w .rising);
+        rising = rising-link FIRST x 0 (l .levels) (omega arith) (omega arith) (w .rising);
         keys = λ j. rw p (
-            let a = sum-place (λ y. one (y .key) j) (item f x) (items (l .levels)) in
+            let a = sum-place (λ y. one (y .key) j) (item FIRST x) (items (l .levels)) in
             let b : one k j + keyed j (items (l .levels)) ≤ 1 = if-eq (λ z. z + keyed j (items (l .levels)) ≤ 1) k j
             (λ q. let z = ap (λ (m : ℕ). keyed m (items (l .levels))) q in omega arith) (λ d. omega (arith, w .keys j)) in
             omega arith);
         slots = λ t. rw p (
-            let a = sum-place (λ y. one (y .slot) t) (item f x) (items (l .levels)) in
+            let a = sum-place (λ y. one (y .slot) t) (item FIRST x) (items (l .levels)) in
             let b = ap (times t) e in
             let c = w .slots t in
             omega arith);
       }
-
-  pub put-formed : (k s : ℕ) (rest : List ℕ) → keyed k (items (l .levels)) ≡ 0 → l .free ≡ s ∷ rest → WellFormed (put k s rest l)
-  put-formed k s rest h e = putAt-formed 1 k s rest (omega arith) (omega arith) h e
 
   pub release-formed : (x : Item) → In x (items (l .levels)) → WellFormed (release x l)
   release-formed x i = record {

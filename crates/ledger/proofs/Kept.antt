@@ -7,15 +7,14 @@ use Prim.Native.Nat.{ℕ, _≤_}
 use native.Mathlib.Omega.{arith}
 use Rattle.numbers.specs.Frequency.{CEILING, raised, capOf}
 use Rattle.lists.specs.Lists.{In}
-use Rattle.lists.proofs.Tests.{if-eq}
-use Rattle.ledger.specs.Ledger.{Level, Ledger, Item, new, items, lookup, ifFound, lowest, put, release, move, keyed, WellFormed}
+use Rattle.ledger.specs.Ledger.{Ledger, Item, new, items, lookup, ifFound, lowest, put, release, move, keyed, WellFormed}
 use Rattle.ledger.specs.Buckets.{Outcome, insertAs, insert, touch, remove, popMin, peekMin, minFreq, frequency, entryEpoch, redated, setEntryEpoch, currentEpoch, atEpoch, setEpoch, advanceEpoch, len, isEmpty, contains, clear, batch, insertBatch, touchBatch, removeBatch}
-use Rattle.ledger.specs.Rebuild.{rebuild, byLowest, decayHalve, rebaseMinFreq}
-use Rattle.ledger.specs.BucketCalls.{Query, PeekMin, MinFreq, Frequency, EntryEpoch, CurrentEpoch, Len, IsEmpty, Contains, WalkStart, WalkStep, BucketCall, Ask, Insert, Touch, Remove, PopMin, SetEntryEpoch, SetEpoch, AdvanceEpoch, DecayHalve, RebaseMinFreq, Clear, InsertBatch, TouchBatch, RemoveBatch, asks, calls}
+use Rattle.ledger.specs.Regroup.{decayHalve, decayHalveTimes, rebaseMinFreq}
+use Rattle.ledger.specs.BucketCalls.{Query, PeekMin, MinFreq, Frequency, EntryEpoch, CurrentEpoch, Len, IsEmpty, Contains, WalkStart, WalkStep, BucketCall, Ask, Insert, Touch, Remove, PopMin, SetEntryEpoch, SetEpoch, AdvanceEpoch, DecayHalve, DecayHalveTimes, RebaseMinFreq, Clear, InsertBatch, TouchBatch, RemoveBatch, asks, calls}
 use Rattle.ledger.proofs.Items.{found-in, found-none}
 use Rattle.ledger.proofs.Rising.{lowest-in}
 use Rattle.ledger.proofs.Changes.{new-formed, put-formed, release-formed, move-formed, raised-fits, epoch-formed, redated-formed}
-use Rattle.ledger.proofs.Rebuilt.{decayHalve-formed, rebaseMinFreq-formed}
+use Rattle.ledger.proofs.Halvings.{halvings-formed, halvings-leave, rebase-formed, rebase-leaves}
 
 -- What holds in both cases of what is found holds of the choice
 pub by-found : {A : Type 0} (P : A → Type 0) (o : Option Item) (a : A) (f : Item → A) →
@@ -49,7 +48,7 @@ pub record Changes (R : Ledger → Ledger → Type 0) : Type 0 where
   pub moves : (l : Ledger) (x : Item) (cap : ℕ) → In x (items (l .levels)) → cap ≤ CEILING → R l (move x (raised cap (x .frequency)) l)
   pub redates : (l : Ledger) (k n : ℕ) → R l (record { capacity = l .capacity; epoch = l .epoch; levels = redated k n (l .levels); free = l .free })
   pub dates : (l : Ledger) (n : ℕ) → R l (atEpoch n l)
-  pub halves : (l : Ledger) → R l (decayHalve l .1)
+  pub halves : (l : Ledger) (n : ℕ) → R l (decayHalveTimes n l .1)
   pub rebases : (l : Ledger) → R l (rebaseMinFreq l .1)
   pub empties : (l : Ledger) → R l (new (l .capacity))
 
@@ -64,6 +63,7 @@ Fits (SetEntryEpoch k n) = Unit {0}
 Fits (SetEpoch n) = Unit {0}
 Fits AdvanceEpoch = Unit {0}
 Fits DecayHalve = Unit {0}
+Fits (DecayHalveTimes n) = Unit {0}
 Fits RebaseMinFreq = Unit {0}
 Fits Clear = Unit {0}
 Fits (InsertBatch ks) = Unit {0}
@@ -95,7 +95,7 @@ module _ (R : Ledger → Ledger → Type 0) (h : Changes R) where
   batch-keeps call f (k ∷ ks) l = h .goes-on l (call k l .1) _ (f k l) (batch-keeps call f ks (call k l .1))
 
   pub calls-keep : (c : BucketCall) → Fits c → (l : Ledger) → R l (calls c l .1)
-  unfolding calls popMin setEntryEpoch setEpoch advanceEpoch clear insertBatch touchBatch removeBatch
+  unfolding calls decayHalve popMin setEntryEpoch setEpoch advanceEpoch clear insertBatch touchBatch removeBatch
   calls-keep (Ask q) fits l = rw (queries-leave q l) (h .stays l)
   calls-keep (Insert k) fits l = insert-keeps k l
   calls-keep (Touch cap k) fits l = touch-keeps cap k l fits
@@ -105,7 +105,8 @@ module _ (R : Ledger → Ledger → Type 0) (h : Changes R) where
   calls-keep (SetEntryEpoch k n) fits l = by-found (λ (o : Outcome). R l (o .1)) (lookup k l) _ _ (λ e. h .stays l) (λ x e. h .redates l k n)
   calls-keep (SetEpoch n) fits l = h .dates l n
   calls-keep AdvanceEpoch fits l = h .dates l _
-  calls-keep DecayHalve fits l = h .halves l
+  calls-keep DecayHalve fits l = h .halves l 1
+  calls-keep (DecayHalveTimes n) fits l = h .halves l n
   calls-keep RebaseMinFreq fits l = h .rebases l
   calls-keep Clear fits l = h .empties l
   calls-keep (InsertBatch ks) fits l = batch-keeps insert insert-keeps ks l
@@ -121,28 +122,10 @@ calls-formed = calls-keep (λ l m. WellFormed l → WellFormed m) (record {
   moves = λ l x cap i c w. let r = raised-fits l w cap x i c in move-formed l w x (raised cap (x .frequency)) i (r .0) (r .1);
   redates = λ l k n w. redated-formed l w k n;
   dates = λ l n w. epoch-formed l w n;
-  halves = λ l w. decayHalve-formed l w;
-  rebases = λ l w. rebaseMinFreq-formed l w;
+  halves = λ l n w. halvings-formed l w n;
+  rebases = λ l w. rebase-formed l w;
   empties = λ l w. new-formed (l .capacity);
 })
-
-by-lowest : (P : Ledger → Type 0) (ls : List Level) (l : Ledger) (f : ℕ → Ledger) → P l → ((low : ℕ) → P (f low)) → P (byLowest ls l f)
-by-lowest P [] l f p q = p
-by-lowest P (m ∷ ms) l f p q = q (m .frequency)
-
-rebuild-capacity : (g : ℕ → ℕ) (l : Ledger) → rebuild g l .capacity ≡ l .capacity
-unfolding rebuild
-rebuild-capacity g l = refl
-
-halve-capacity : (l : Ledger) → decayHalve l .1 .capacity ≡ l .capacity
-unfolding decayHalve
-halve-capacity l = by-lowest (λ m. m .capacity ≡ l .capacity) (l .levels) l _ refl (λ low. rebuild-capacity _ l)
-
-rebase-capacity : (l : Ledger) → rebaseMinFreq l .1 .capacity ≡ l .capacity
-unfolding rebaseMinFreq
-rebase-capacity l =
-    by-lowest (λ m. m .capacity ≡ l .capacity) (l .levels) l _ refl
-    (λ low. if-eq (λ (m : Ledger). m .capacity ≡ l .capacity) low 1 (λ s. refl) (λ d. rebuild-capacity _ l))
 
 pub calls-capacity : (c : BucketCall) → Fits c → (l : Ledger) → calls c l .1 .capacity ≡ l .capacity
 calls-capacity = calls-keep (λ l m. m .capacity ≡ l .capacity) (record {
@@ -153,7 +136,7 @@ calls-capacity = calls-keep (λ l m. m .capacity ≡ l .capacity) (record {
   moves = λ l x cap i c. refl;
   redates = λ l k n. refl;
   dates = λ l n. refl;
-  halves = halve-capacity;
-  rebases = rebase-capacity;
+  halves = λ l n. halvings-leave n l .same-capacity;
+  rebases = λ l. rebase-leaves l .same-capacity;
   empties = λ l. refl;
 })

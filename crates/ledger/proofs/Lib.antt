@@ -2,9 +2,11 @@ pub mod Items
 pub mod Rising
 pub mod Slots
 pub mod Changes
-pub mod Rebuilt
+pub mod Regrouped
+pub mod Halvings
 pub mod Kept
 pub mod Walked
+pub mod RegroupOrder
 pub mod Refusals
 pub mod CacheKept
 pub mod Layers
@@ -17,5 +19,4 @@ pub mod Parts
 pub mod FirstSentence
 pub mod Counted
 pub mod SecondSentence
-pub mod Refilled
 pub mod Split

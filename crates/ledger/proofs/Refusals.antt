@@ -11,9 +11,9 @@ use Rattle.numbers.specs.declared.Answer.{Answer}
 use Rattle.numbers.specs.declared.Answer.the-variants.{Absent, Present, Full, Empty}
 use Rattle.ledger.specs.Ledger.{Ledger, Item, items, lookup, ifFound, size, lowest, WellFormed}
 use Rattle.ledger.specs.Buckets.{Outcome, done, refused, insertAs, insert, touch, remove, popMin, peekMin, minFreq, frequency, entryEpoch, setEntryEpoch, currentEpoch, setEpoch, advanceEpoch, len, isEmpty, contains, clear, insertBatch, touchBatch, removeBatch}
-use Rattle.ledger.specs.Rebuild.{decayHalve, rebaseMinFreq}
+use Rattle.ledger.specs.Regroup.{decayHalve, decayHalveTimes, rebaseMinFreq}
 use Rattle.ledger.specs.Walk.{Step, here, noMore, absent, stepReply, start, step}
-use Rattle.ledger.specs.BucketCalls.{Query, PeekMin, MinFreq, Frequency, EntryEpoch, CurrentEpoch, Len, IsEmpty, Contains, WalkStart, WalkStep, BucketCall, Ask, Insert, Touch, Remove, PopMin, SetEntryEpoch, SetEpoch, AdvanceEpoch, DecayHalve, RebaseMinFreq, Clear, InsertBatch, TouchBatch, RemoveBatch, asks, calls}
+use Rattle.ledger.specs.BucketCalls.{Query, PeekMin, MinFreq, Frequency, EntryEpoch, CurrentEpoch, Len, IsEmpty, Contains, WalkStart, WalkStep, BucketCall, Ask, Insert, Touch, Remove, PopMin, SetEntryEpoch, SetEpoch, AdvanceEpoch, DecayHalve, DecayHalveTimes, RebaseMinFreq, Clear, InsertBatch, TouchBatch, RemoveBatch, asks, calls}
 use Rattle.ledger.specs.Refusals.{Bound, Unbound, Refused, touches, removes, asksFrequency, asksEpoch, setsEpoch, steps, inserts, insertsInto, pops, peeks, asksLowest}
 use Rattle.ledger.proofs.Items.{found-in, found-none, none-found, in-keyed}
 use Rattle.ledger.proofs.Rising.{lowest-none, lowest-some}
@@ -131,7 +131,7 @@ module _ (l : Ledger) (w : WellFormed l) where
       let p = step-refused s (step s l) a e in subst (Refused l (Ask (WalkStep s))) (p .1) (steps s (step-absent l w s .0 (p .0)))
 
   why : (c : BucketCall) (a : Answer) → calls c l .0 ≡ refused a → Refused l c a
-  unfolding calls insert touch remove popMin setEntryEpoch setEpoch advanceEpoch clear decayHalve rebaseMinFreq insertBatch touchBatch removeBatch
+  unfolding calls insert touch remove popMin setEntryEpoch setEpoch advanceEpoch clear decayHalve decayHalveTimes rebaseMinFreq insertBatch touchBatch removeBatch
   why (Ask q) a e = asks-why q a e
   why (Insert k) a e = insertAs-refused k (lookup k l) (l .free) a refl refl e
   why (Touch cap k) a e = needs-key k (Touch cap k) a _ _ (touches cap k) e
@@ -141,6 +141,7 @@ module _ (l : Ledger) (w : WellFormed l) where
   why (SetEpoch n) a e = done-refused _ a e
   why AdvanceEpoch a e = done-refused _ a e
   why DecayHalve a e = done-refused _ a e
+  why (DecayHalveTimes n) a e = done-refused _ a e
   why RebaseMinFreq a e = done-refused _ a e
   why Clear a e = done-refused _ a e
   why (InsertBatch ks) a e = done-refused _ a e
@@ -178,7 +179,7 @@ found-leaves none y a l ns m e = refl
 found-leaves (some x) y a l ns m e = done-refused (ns x) a e
 
 pub refused-leaves : (c : BucketCall) (l : Ledger) (a : Answer) → calls c l .0 ≡ refused a → calls c l .1 ≡ l
-unfolding calls insert touch remove popMin setEntryEpoch setEpoch advanceEpoch clear decayHalve rebaseMinFreq insertBatch touchBatch removeBatch
+unfolding calls insert touch remove popMin setEntryEpoch setEpoch advanceEpoch clear decayHalve decayHalveTimes rebaseMinFreq insertBatch touchBatch removeBatch
 refused-leaves (Ask q) l a e = queries-leave q l
 refused-leaves (Insert k) l a e = insertAs-leaves k l (lookup k l) (l .free) a e
 refused-leaves (Touch cap k) l a e = found-leaves (lookup k l) Absent a l _ _ e
@@ -188,6 +189,7 @@ refused-leaves (SetEntryEpoch k n) l a e = found-leaves (lookup k l) Absent a l 
 refused-leaves (SetEpoch n) l a e = done-refused _ a e
 refused-leaves AdvanceEpoch l a e = done-refused _ a e
 refused-leaves DecayHalve l a e = done-refused _ a e
+refused-leaves (DecayHalveTimes n) l a e = done-refused _ a e
 refused-leaves RebaseMinFreq l a e = done-refused _ a e
 refused-leaves Clear l a e = done-refused _ a e
 refused-leaves (InsertBatch ks) l a e = done-refused _ a e

@@ -72,11 +72,11 @@ Below f ls = All (λ (l : Level). l .frequency < f) ls
 abbrev pub From : ℕ → List Level → Type 0
 From f ls = All (λ (l : Level). f ≤ l .frequency) ls
 
-link-from : (f : ℕ) (e : Entry) (ls : List Level) → From f ls → link f e ls ≡ joined f e ls
+pub link-from : (f : ℕ) (e : Entry) (ls : List Level) → From f ls → link f e ls ≡ joined f e ls
 link-from f e [] h = refl
 link-from f e (l ∷ ls) h = if-not-less (l .frequency) f _ _ (h .0)
 
-pub link-at : (f : ℕ) (e : Entry) (us vs : List Level) → Below f us → From f vs → link f e (us ++ vs) ≡ us ++ joined f e vs
+link-at : (f : ℕ) (e : Entry) (us vs : List Level) → Below f us → From f vs → link f e (us ++ vs) ≡ us ++ joined f e vs
 link-at f e [] vs hu hv = link-from f e vs hv
 link-at f e (u ∷ us) vs hu hv = if-less (u .frequency) f _ _ (hu .0) ∙ ap {B = List Level} (λ zs. u ∷ zs) (link-at f e us vs (hu .1) hv)
 

@@ -9,8 +9,7 @@ use Rattle.lists.specs.Lists.{All, In, sum, one}
 use Rattle.lists.proofs.Tests.{if-eq, if-same, if-other, one-same}
 use Rattle.lists.proofs.Members.{all-in, all-mid, in-mid, in-split, sum-append, in-sum}
 use Rattle.ledger.specs.Ledger.{Entry, Level, Ledger, Item, tag, items, Rising, slotted, WellFormed}
-use Rattle.ledger.specs.Rebuild.{inSlot}
-use Rattle.ledger.specs.Walk.{absent, listOf, head, start, after, step, Shows}
+use Rattle.ledger.specs.Walk.{inSlot, absent, listOf, head, start, after, step, Shows}
 use Rattle.ledger.proofs.Items.{sum-tag, in-tag-rest}
 use Rattle.ledger.proofs.Rising.{Within, all-within}
 use Rattle.ledger.proofs.Slots.{below-not, below-le}
@@ -70,7 +69,7 @@ in-listOf a (l ∷ ls) r x i =
 
 -- A step finds its place
 
-pub inSlot-none : (s : ℕ) (xs : List Item) → slotted s xs ≡ 0 → inSlot s xs ≡ []
+inSlot-none : (s : ℕ) (xs : List Item) → slotted s xs ≡ 0 → inSlot s xs ≡ []
 inSlot-none s [] h = refl
 inSlot-none s (x ∷ xs) h =
     if-eq (λ z. z ≡ []) (x .slot) s
@@ -78,7 +77,7 @@ inSlot-none s (x ∷ xs) h =
     (λ d. inSlot-none s xs (omega arith))
 
 -- an item whose slot stands once is all that the slot has
-pub inSlot-one : (xs : List Item) (x : Item) → In x xs → slotted (x .slot) xs ≤ 1 → inSlot (x .slot) xs ≡ x ∷ []
+inSlot-one : (xs : List Item) (x : Item) → In x xs → slotted (x .slot) xs ≤ 1 → inSlot (x .slot) xs ≡ x ∷ []
 inSlot-one (y ∷ ys) x (inl e) h =
     let s : y .slot ≡ x .slot = ap (λ (z : Item). z .slot) e in
     if-same (y .slot) (x .slot) (y ∷ inSlot (x .slot) ys) (inSlot (x .slot) ys) s

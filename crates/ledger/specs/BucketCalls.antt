@@ -3,7 +3,7 @@ use mathlib.Core.List.{List, [], _∷_}
 use Prim.Native.Nat.{ℕ}
 use Rattle.ledger.specs.Ledger.{Ledger}
 use Rattle.ledger.specs.Buckets.{Outcome, Reply, insert, touch, remove, popMin, peekMin, minFreq, frequency, entryEpoch, setEntryEpoch, currentEpoch, setEpoch, advanceEpoch, len, isEmpty, contains, clear, insertBatch, touchBatch, removeBatch}
-use Rattle.ledger.specs.Rebuild.{decayHalve, rebaseMinFreq}
+use Rattle.ledger.specs.Regroup.{decayHalve, decayHalveTimes, rebaseMinFreq}
 use Rattle.ledger.specs.Walk.{stepReply, start, step}
 
 -- the calls that only answer
@@ -29,6 +29,7 @@ pub data BucketCall : Type 0 where
   SetEpoch : (epoch : ℕ) → BucketCall
   AdvanceEpoch : BucketCall
   DecayHalve : BucketCall
+  DecayHalveTimes : (n : ℕ) → BucketCall
   RebaseMinFreq : BucketCall
   Clear : BucketCall
   InsertBatch : List ℕ → BucketCall
@@ -57,6 +58,7 @@ calls (SetEntryEpoch k n) l = setEntryEpoch k n l
 calls (SetEpoch n) l = setEpoch n l
 calls AdvanceEpoch l = advanceEpoch l
 calls DecayHalve l = decayHalve l
+calls (DecayHalveTimes n) l = decayHalveTimes n l
 calls RebaseMinFreq l = rebaseMinFreq l
 calls Clear l = clear l
 calls (InsertBatch ks) l = insertBatch ks l

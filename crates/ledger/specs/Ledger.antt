@@ -106,18 +106,14 @@ abbrev pub unlink : ℕ → List Level → List Level
 unlink k [] = []
 unlink k (l ∷ ls) = level (l .frequency) (without k (l .entries)) (unlink k ls)
 
--- an absent key bound at frequency f: the current epoch, the slot s, at the head of list f; `rest` stays free
-abbrev pub putAt : ℕ → ℕ → ℕ → List ℕ → Ledger → Ledger
-putAt f k s rest l = record {
+-- an absent key bound: the first frequency, the current epoch, the slot s, at the head of its list; `rest` stays free
+abbrev pub put : ℕ → ℕ → List ℕ → Ledger → Ledger
+put k s rest l = record {
   capacity = l .capacity;
   epoch = l .epoch;
-  levels = link f (record { key = k; slot = s; epoch = l .epoch }) (l .levels);
+  levels = link FIRST (record { key = k; slot = s; epoch = l .epoch }) (l .levels);
   free = rest;
 }
-
--- an insert binds at frequency 1
-abbrev pub put : ℕ → ℕ → List ℕ → Ledger → Ledger
-put k s rest l = putAt FIRST k s rest l
 
 -- a bound key let go: its slot goes to the front of the free order
 abbrev pub release : Item → Ledger → Ledger

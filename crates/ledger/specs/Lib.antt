@@ -1,8 +1,8 @@
 pub mod Ledger
 pub mod Buckets
-pub mod Rebuild
 pub mod OldTouches
 pub mod Walk
+pub mod Regroup
 pub mod BucketCalls
 pub mod Cache
 pub mod History

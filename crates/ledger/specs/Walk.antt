@@ -7,7 +7,6 @@ use lib.Dec.{eqb}
 use Rattle.numbers.specs.declared.Answer.the-variants.{Absent}
 use Rattle.ledger.specs.Ledger.{Level, Ledger, Item, tag, items}
 use Rattle.ledger.specs.Buckets.{Reply, done, refused}
-use Rattle.ledger.specs.Rebuild.{inSlot}
 
 -- where a walk stands: at a key, past the last one, or nowhere
 pub data Step : Type 0 where
@@ -38,6 +37,11 @@ start f l = head (listOf f (l .levels))
 abbrev pub after : ℕ → List Item → Step
 after s [] = absent
 after s (x ∷ xs) = cond (eqb (x .slot) s) (head xs) (after s xs)
+
+-- the items in slot s
+abbrev pub inSlot : ℕ → List Item → List Item
+inSlot s [] = []
+inSlot s (x ∷ xs) = cond (eqb (x .slot) s) (x ∷ inSlot s xs) (inSlot s xs)
 
 abbrev pub afterItem : List Item → ℕ → Ledger → Step
 afterItem [] s l = absent

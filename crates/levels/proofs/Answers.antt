@@ -9,7 +9,7 @@ use lib.ListN.{length, getD}
 use lib.Dec.{eqb}
 use borrow.Author.Tests.{eq-eqb, eqb-true}
 use Rattle.numbers.specs.Marks.{NONE}
-use Rattle.lists.proofs.Tests.{neither, said-no, if-same, if-other}
+use Rattle.lists.proofs.Tests.{neither, said-no, by-lt, if-same, if-other}
 use Rattle.lists.specs.Lists.{All, final}
 use Rattle.lists.proofs.Members.{all-map}
 use Rattle.links.specs.Linked.{Ring, linked}
@@ -17,14 +17,13 @@ use Rattle.links.specs.declared.Ends.{Ends}
 use Rattle.links.proofs.Functions.{look-end}
 use Rattle.links.proofs.Lists.{ring-tail}
 use Rattle.bucket_table.specs.declared.Buckets.{Buckets}
-use Rattle.bucket_table.specs.Records.{nums, frequency, higher, head, tail, up, InTable, Spot, RecordsHold}
+use Rattle.bucket_table.specs.Records.{nums, frequency, higher, head, tail, up, InTable, Spot, RecordsHold, RowsRise}
 use Rattle.bucket_table.specs.Calls.{HasLevel, PlacesRecord}
-use Rattle.bucket_table.proofs.Rows.{rising-around, at-spot, above-spot, above-none, above-row, row-some}
+use Rattle.bucket_table.proofs.Rows.{rising-around, rising-above, at-spot, above-spot, above-none, above-row, row-some}
 use Rattle.levels.specs.Levels.{Level, first, lowest, lowestFrequency, headOf}
 use Rattle.levels.specs.Held.{Tabs, tabs, Line, rows, view, Lines, Held}
 use Rattle.levels.specs.Calls.{InPlace, SoundWith, Lowest, LowestFrequency, Heads}
-use Rattle.levels.proofs.Lines.{rows-append, view-all, all-view, all-rows, lines-room, records-mid, line-in, number-in, written}
-use Rattle.levels.proofs.Calls.{part}
+use Rattle.levels.proofs.Lines.{rows-append, view-append, all-view, rows-all, all-rows, lines-room, records-mid, line-in, number-in, written}
 
 pub no-answer : {A : Type 0} → false ≡ true → A
 no-answer q = absurd (neither false q refl)
@@ -110,11 +109,47 @@ head-none : (g : ℕ) (vs : List Level) → All (λ l. g < l .freq) vs → headO
 head-none g [] h = refl
 head-none g (v ∷ vs) h = let l = h .0 in if-other (v .freq) g (first (v .slots)) (headOf g vs) (omega arith) ∙ head-none g vs (h .1)
 
+-- lines whose frequencies rise, parted at g
+cut : (g low : ℕ) (ls : List Line) → RowsRise low (rows ls) → (us : List Line) × (vs : List Line) × (ls ≡ us ++ vs) × All (λ l. l .row .freq < g) us × All (λ l. g ≤ l .row .freq) vs
+cut g low [] r = ([], [], refl, tt, tt)
+cut g low (l ∷ ls) r =
+    by-lt (l .row .freq) g
+    (λ a. let q = cut g (l .row .freq) ls (r .2) in (l ∷ q .0, q .1, ap (λ (k : List Line). l ∷ k) (q .2), (a, q .3), q .4))
+    (λ a.
+    let above = all-rows (λ w. l .row .freq < w .freq) ls (rising-above (l .row .freq) (rows ls) (r .2)) in
+    ([], l ∷ ls, refl, tt, (a, all-map (λ k. l .row .freq < k .row .freq) (λ k. g ≤ k .row .freq) (λ k b. omega arith) ls above)))
+
+-- the lines of the levels that are held, parted at g: `at` is the record of the last one below
+record PartedAt (t : Tabs) (s : Buckets) (g at : ℕ) (ls : List Level) : Type 0 where
+  lower : List Line
+  upper : List Line
+  rep : Lines t s (lower ++ upper)
+  seen : view lower ++ view upper ≡ ls
+  below : All (λ l. l .freq < g) (view lower)
+  from : All (λ l. g ≤ l .row .freq) upper
+  place : at ≡ final NONE (nums (rows lower))
+
+part : (t : Tabs) (s : Buckets) (g at : ℕ) → PlacesRecord (t .buckets) s g at → (ls : List Level) → Held t s ls → PartedAt t s g at ls
+part t s g at pl ls h =
+    let q = cut g 0 (h .lines) (h .rep .records .rising) in
+    let rep = subst (Lines t s) (q .2) (h .rep) in
+    record {
+      lower = q .0;
+      upper = q .1;
+      rep = rep;
+      seen = sym (view-append (q .0) (q .1)) ∙ ap view (sym (q .2)) ∙ h .seen;
+      below = all-view (λ l. l .freq < g) (q .0) (view (q .0)) refl (q .3);
+      from = q .4;
+      place =
+          pl .place (t .spares) (rows (q .0)) (rows (q .1)) (rw (rows-append (q .0) (q .1)) at (rep .records))
+          (rows-all (λ w. w .freq < g) (q .0) (q .3)) (rows-all (λ w. g ≤ w .freq) (q .1) (q .4));
+    }
+
 module _ (b : List ℕ) (s : Buckets) (g at n : ℕ) (pl : PlacesRecord b s g at) (en : n ≡ up b s at) where
   pub head-spots : SoundWith b s → Spot b at × Spot b n
   head-spots k =
       let t = tabs (k .0) (k .1) (k .2) b (k .3) in
-      let q = part t s g at pl (k .4 .0) (k .4 .1) .5 in
+      let q = part t s g at pl (k .4 .0) (k .4 .1) in
       let h : RecordsHold b (k .3) s (rows (q .lower) ++ rows (q .upper)) = rw (rows-append (q .lower) (q .upper)) at (q .rep .records) in
       (rw (q .place) (at-spot b (k .3) s (rows (q .lower)) (rows (q .upper)) h), rw (en, q .place) (above-spot b (k .3) s (rows (q .lower)) (rows (q .upper)) h))
 
@@ -123,9 +158,8 @@ module _ (b : List ℕ) (s : Buckets) (g at n : ℕ) (pl : PlacesRecord b s g at
       → ((us : List Line) (l : Line) (vs : List Line) → Lines t s (us ++ l ∷ vs) → n ≡ l .row .num → g ≤ l .row .freq → v ≡ headOf g (view (l ∷ vs))) → (ls : List Level) → Held t s ls → v ≡ headOf g ls
   head-by t eb v none some ls h =
       let q = part t s g at (subst (λ (c : List ℕ). PlacesRecord c s g at) (sym eb) pl) ls h in
-      let k = q .5 in
-      let en' : n ≡ up (t .buckets) s (final NONE (nums (rows (k .lower)))) = en ∙ ap (λ (c : List ℕ). up c s at) (sym eb) ∙ ap (up (t .buckets) s) (k .place) in
-      go (k .upper) (k .lower) (k .rep) (view-all (λ l. g ≤ l .freq) (k .upper) (q .1) (k .seen-upper) (q .4)) en' ∙ ap (headOf g) (k .seen-upper) ∙ sym (head-skip g (q .0) (q .1) (q .3)) ∙ ap (headOf g) (sym (q .2))
+      let en' : n ≡ up (t .buckets) s (final NONE (nums (rows (q .lower)))) = en ∙ ap (λ (c : List ℕ). up c s at) (sym eb) ∙ ap (up (t .buckets) s) (q .place) in
+      go (q .upper) (q .lower) (q .rep) (q .from) en' ∙ sym (head-skip g (view (q .lower)) (view (q .upper)) (q .below)) ∙ ap (headOf g) (q .seen)
     where
       go : (vs us : List Line) → Lines t s (us ++ vs) → All (λ l. g ≤ l .row .freq) vs → n ≡ up (t .buckets) s (final NONE (nums (rows us))) → v ≡ headOf g (view vs)
       go [] us k a e = none (e ∙ above-none (t .buckets) (t .spares) s (rows us) (rw (rows-append us []) at (k .records)))

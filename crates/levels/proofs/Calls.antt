@@ -6,25 +6,23 @@ use Prim.Native.Nat.{ℕ, _+_, _<_, _≤_}
 use native.Mathlib.Omega.{arith}
 use lib.ListN.{length, getD}
 use Rattle.numbers.specs.Marks.{NONE}
-use Rattle.numbers.specs.Frequency.{CEILING, raised}
+use Rattle.numbers.specs.Frequency.{FIRST, CEILING, raised}
 use Rattle.numbers.specs.declared.Frequency.{Frequency}
 use Rattle.lists.specs.Lists.{All, final}
 use Rattle.lists.proofs.Tests.{by-lt, if-other, if-less, if-not-less}
 use Rattle.lists.proofs.Members.{all-map, all-append, all-right, final-in, final-append}
-use Rattle.lists.proofs.Maps.{map-parts}
 use Rattle.links.specs.Linked.{Ring, linked}
 use Rattle.links.specs.declared.Ends.{Ends}
 use Rattle.links.proofs.Functions.{look-end}
 use Rattle.links.proofs.Lists.{ring-distinct, ring-tail}
 use Rattle.bucket_table.specs.declared.Buckets.{Buckets}
-use Rattle.bucket_table.specs.Records.{Row, row, nums, frequency, owner, up, Spot, RecordsHold, RowsRise}
+use Rattle.bucket_table.specs.Records.{Row, row, nums, frequency, owner, up, Spot, RecordsHold}
 use Rattle.bucket_table.proofs.Rows.{nums-append, rising-around, rising-above, next-row, row-in, row-some, row-written, above-spot}
-use Rattle.bucket_table.specs.Calls.{PlacesRecord}
 use Rattle.levels.specs.declared.Left.{Left}
 use Rattle.levels.specs.Levels.{Level, level, Nowhere, keep, join, touched}
-use Rattle.levels.specs.Held.{Tabs, tabs, Line, line, rows, view, Lines, Some, Held, Parted}
+use Rattle.levels.specs.Held.{Tabs, tabs, Line, line, rows, Held, Parted}
 use Rattle.levels.specs.Calls.{Fronts, InPlace, Lifts, Ready, Binding, Unbinds, SlotBound, LevelTouches, LevelBinds, LevelLeaves, LevelEnters}
-use Rattle.levels.proofs.Lines.{rows-append, view-append, view-all, all-view, rows-all, all-rows, lines-room, records-mid, line-in, written, split-held, split-at}
+use Rattle.levels.proofs.Lines.{view-append, all-view, all-rows, lines-room, records-mid, line-in, written, split-held, split-at}
 use Rattle.levels.proofs.One.{free-nowhere}
 use Rattle.levels.proofs.Leave.{bound-split, bound-fits, bound-records}
 
@@ -194,48 +192,25 @@ unbinds t s x t' o d = record {
   holds = λ us f xs ys vs h. rw (keep-append us f (xs ++ ys) vs) at (parted-held t' (o .state) (o .at) (us ++ keep f (xs ++ ys) []) vs (d .holds us f xs ys vs h));
 }
 
--- ---- the place of a frequency
+-- ---- `bind`
 
-module _ (t : Tabs) (s : Buckets) (f at : ℕ) (pl : PlacesRecord (t .buckets) s f at) where
-  parted-by : (us vs : List Level) → All (λ l. l .freq < f) us → All (λ l. f ≤ l .freq) vs → Held t s (us ++ vs) → Parted t s at us vs
-  parted-by us vs hu hv h =
-      let q = map-parts (λ (l : Line). level (l .row .freq) (l .slots)) (h .lines) us vs (h .seen) in
-      record {
-        lower = q .0;
-        upper = q .1;
-        rep = subst (Lines t s) (q .2) (h .rep);
-        some = subst (All Some) (q .2) (h .some);
-        seen-lower = q .3;
-        seen-upper = q .4;
-        place =
-            pl .place (t .spares) (rows (q .0)) (rows (q .1)) (rw (rows-append (q .0) (q .1)) at (subst (Lines t s) (q .2) (h .rep) .records))
-            (rows-all (λ w. w .freq < f) (q .0) (view-all (λ l. l .freq < f) (q .0) us (q .3) hu)) (rows-all (λ w. f ≤ w .freq) (q .1) (view-all (λ l. f ≤ l .freq) (q .1) vs (q .4) hv));
-      }
+-- no level is below the first, so all levels stand above the place that has no record below it
+first-least : (t : Tabs) (s : Buckets) (ls : List Level) → Held t s ls → All (λ l. FIRST ≤ l .freq) ls
+first-least t s ls h =
+    all-view (λ l. FIRST ≤ l .freq) (h .lines) ls (h .seen) (all-rows (λ w. FIRST ≤ w .freq) (h .lines) (rising-above 0 (rows (h .lines)) (h .rep .records .rising)))
 
-  -- some levels, parted at f
-  pub part : (ls : List Level) → Held t s ls → (us : List Level) × (vs : List Level) × (ls ≡ us ++ vs) × All (λ l. l .freq < f) us × All (λ l. f ≤ l .freq) vs × Parted t s at us vs
-  part ls h =
-      let q = cut 0 (h .lines) (h .rep .records .rising) in
-      let us = view (q .0) in let vs = view (q .1) in
-      let e : ls ≡ us ++ vs = sym (h .seen) ∙ ap view (q .2) ∙ view-append (q .0) (q .1) in
-      let hu = all-view (λ l. l .freq < f) (q .0) us refl (q .3) in
-      let hv = all-view (λ l. f ≤ l .freq) (q .1) vs refl (q .4) in
-      (us, vs, e, hu, hv, parted-by us vs hu hv (subst (Held t s) e h))
-    where
-      cut : (low : ℕ) (ls : List Line) → RowsRise low (rows ls) → (us : List Line) × (vs : List Line) × (ls ≡ us ++ vs) × All (λ l. l .row .freq < f) us × All (λ l. f ≤ l .row .freq) vs
-      cut low [] r = ([], [], refl, tt, tt)
-      cut low (l ∷ ls) r =
-          by-lt (l .row .freq) f
-          (λ a. let q = cut (l .row .freq) ls (r .2) in (l ∷ q .0, q .1, ap (λ (k : List Line). l ∷ k) (q .2), (a, q .3), q .4))
-          (λ a. ([], l ∷ ls, refl, tt, (a, all-map (λ k. l .row .freq < k .row .freq) (λ k. f ≤ k .row .freq) (λ k b. omega arith) ls (all-rows (λ w. l .row .freq < w .freq) ls (rising-above (l .row .freq) (rows ls) (r .2))))))
+all-above : (t : Tabs) (s : Buckets) (ls : List Level) → Held t s ls → Parted t s NONE [] ls
+all-above t s ls h = record { lower = []; upper = h .lines; rep = h .rep; some = h .some; seen-lower = refl; seen-upper = h .seen; place = refl }
 
-  module _ (x : ℕ) (pre : Binding t s x) where
-    pub bind-ready : Ready t s at x
-    bind-ready =
-        let q = part (pre .sound .0) (pre .sound .1) in
-        record { us = q .0; vs = q .1; parted = q .5; slot = pre .slot; away = subst (Nowhere x) (q .2) (free-nowhere t s (pre .sound .0) (pre .sound .1) x (pre .next-own)) }
+module _ (t : Tabs) (s : Buckets) (x : ℕ) (pre : Binding t s x) where
+  away : (ls : List Level) → Held t s ls → Nowhere x ls
+  away ls h = free-nowhere t s ls h x (pre .next-own)
 
-    pub binds : f ≤ CEILING → (t' : Tabs) (s' : Buckets) → LevelEnters t s at f x t' s' → LevelBinds t s x f t' s'
-    binds c t' s' en = record {
-      holds = λ us vs one hu hv h. en .holds us vs one c hu hv (free-nowhere t s (us ++ vs) h x (pre .next-own)) (parted-by us vs hu hv h);
-    }
+  pub bind-ready : Ready t s NONE x
+  bind-ready =
+      let ls = pre .sound .0 in
+      let h = pre .sound .1 in
+      record { us = []; vs = ls; parted = all-above t s ls h; slot = pre .slot; away = away ls h }
+
+  pub binds : (t' : Tabs) (s' : Buckets) → LevelEnters t s NONE FIRST x t' s' → LevelBinds t s x t' s'
+  binds t' s' en = record { holds = λ ls h. en .holds [] ls (omega arith) (omega arith) tt (first-least t s ls h) (away ls h) (all-above t s ls h) }

@@ -3,7 +3,7 @@ use mathlib.Core.Path.{_≡_}
 use mathlib.Core.List.{List, [], _∷_, _++_}
 use Prim.Native.Nat.{ℕ, _*_, _<_, _≤_}
 use lib.ListN.{length, getD}
-use Rattle.numbers.specs.Frequency.{CEILING, raised}
+use Rattle.numbers.specs.Frequency.{FIRST, CEILING, raised}
 use Rattle.lists.specs.Lists.{All}
 use Rattle.links.specs.Ring.{upd}
 use Rattle.links.specs.Chain.{cells}
@@ -102,8 +102,8 @@ pub record Binding (t : Tabs) (s : Buckets) (x : ℕ) : Type 0 where
   pub slot : x < length (t .freqs)
   pub next-own : getD (t .nexts) x 0 ≡ x
 
-pub record LevelBinds (t : Tabs) (s : Buckets) (x f : ℕ) (t' : Tabs) (s' : Buckets) : Type 0 where
-  pub holds : (us vs : List Level) → 1 ≤ f → All (λ l. l .freq < f) us → All (λ l. f ≤ l .freq) vs → Held t s (us ++ vs) → Held t' s' (us ++ join x f vs)
+pub record LevelBinds (t : Tabs) (s : Buckets) (x : ℕ) (t' : Tabs) (s' : Buckets) : Type 0 where
+  pub holds : (ls : List Level) → Held t s ls → Held t' s' (join x FIRST ls)
 
 pub record Unbinds (t : Tabs) (s : Buckets) (x : ℕ) (t' : Tabs) (s' : Buckets) : Type 0 where
   pub holds : (us : List Level) (f : ℕ) (xs ys : List ℕ) (vs : List Level)

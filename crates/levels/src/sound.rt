@@ -1,4 +1,4 @@
-// The calls on levels that are known to be sound: they check nothing. All but `bind`, `head` and `reset` take a few steps.
+// The calls on levels that are known to be sound: they check nothing. All but `head` and `reset` take a few steps.
 ghost use mathlib.Core.Path.{_≡_};
 ghost use mathlib.Core.Bool.{true};
 ghost use Prim.Native.Nat.{_<_};
@@ -90,7 +90,7 @@ fn lift(freqs: &mut [u64], buckets: &mut [u64], number: u64, frequency: Frequenc
 }
 
 // Takes a slot out of its record's list, and drops the record if no slot is left.
-fn leave(
+pub fn leave(
     freqs: &mut [u64],
     prevs: &mut [u64],
     nexts: &mut [u64],
@@ -122,7 +122,7 @@ fn leave(
 }
 
 // Puts a free slot in front of the level of this frequency above the record `at`. The level is made if it is not there.
-fn enter(
+pub fn enter(
     freqs: &mut [u64],
     prevs: &mut [u64],
     nexts: &mut [u64],
@@ -194,7 +194,7 @@ pub fn touch(
     }
 }
 
-// Binds a free slot at a frequency. The search for the place takes a step for each level below.
+// Binds a free slot at the first frequency. No level is below that one.
 pub fn bind(
     freqs: &mut [u64],
     prevs: &mut [u64],
@@ -203,14 +203,10 @@ pub fn bind(
     spares: &mut [u64],
     state: Buckets,
     slot: Slot,
-    frequency: Frequency,
 ) -> Buckets
     requires { ⌜ Binding (lent freqs prevs nexts buckets spares) state (slot .0) ⌝ }
-    ensures { λ r. ⌜ LevelBinds
-        (before freqs prevs nexts buckets spares) state (slot .0) (frequency .0)
-        (after freqs prevs nexts buckets spares) r ⌝ }
+    ensures { λ r. ⌜ LevelBinds (before freqs prevs nexts buckets spares) state (slot .0) (after freqs prevs nexts buckets spares) r ⌝ }
 {
-    let at = bucket_table::sound::place(&buckets[..], state, frequency);
     enter(
         freqs,
         prevs,
@@ -218,8 +214,8 @@ pub fn bind(
         buckets,
         spares,
         state,
-        at,
-        frequency,
+        NONE,
+        Frequency::FIRST,
         slot,
     )
 }

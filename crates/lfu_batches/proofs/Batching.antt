@@ -62,7 +62,7 @@ module _ {A : Type 0} (c : Single A) where
     pub batching-sized : (w : Sound cache t s) → Sized (t' .base) (w .0 .table .capacity) × (length (t' .values) ≡ w .0 .table .capacity)
     batching-sized w =
         let o = b .onward (w .0) (w .1) in (
-          subst (Sized (t' .base)) (o .capacity) (o .holds .table .carries .sized),
+          subst (Sized (t' .base)) (o .capacity) (o .holds .table .sized),
           ap (λ (us : List ℕ). length us) (o .holds .values) ∙ o .holds .formed .fits ∙ o .capacity,
         )
 

@@ -5,7 +5,6 @@ use mathlib.Core.Bool.{Bool, true, false}
 use mathlib.Core.List.{List, [], _∷_}
 use mathlib.Core.Logic.{_↔_}
 use Prim.Native.Nat.{ℕ, suc}
-use native.Mathlib.Omega.{arith}
 use lib.ListN.{length, getD, replicate}
 use Rattle.numbers.specs.declared.Answer.{Answer}
 use Rattle.numbers.specs.declared.Answer.the-variants.{Done}
@@ -23,7 +22,7 @@ use Rattle.buckets_tables.specs.declared.State.{State}
 use Rattle.buckets_tables.specs.Tables.{tables}
 use Rattle.buckets_tables.specs.Calls.{Fitting, Cleared, Wiped}
 use Rattle.buckets_tables.specs.Lent.{nothing}
-use Rattle.buckets_rebuild.proofs.Renewed.{sized-fitting, sound-fitting}
+use Rattle.buckets_tables.proofs.Clearing.{sized-fitting, sound-fitting}
 use Rattle.cache_tables.specs.Tables.{CacheTables, withValues}
 use Rattle.cache_tables.specs.Lent.{cache}
 use Rattle.cache_tables.proofs.Asking.{base-sound}
@@ -38,7 +37,7 @@ CacheFitting t c =
 
 pub sound-fits : (t : CacheTables) (s : State) → Sound cache t s → CacheFitting t (s .capacity)
 sound-fits t s w =
-    (sound-fitting (t .base) s (base-sound t s w), ap (λ (us : List ℕ). length us) (w .1 .values) ∙ w .1 .formed .fits ∙ sym (w .1 .table .carries .capacity))
+    (sound-fitting (t .base) s (base-sound t s w), ap (λ (us : List ℕ). length us) (w .1 .values) ∙ w .1 .formed .fits ∙ sym (w .1 .table .capacity))
 
 -- What is made
 
@@ -46,11 +45,11 @@ all-zeros : (vs : List ℕ) → ((i : ℕ) → _≡_ {A = ℕ} (getD vs i 0) 0) 
 all-zeros [] z = refl
 all-zeros (v ∷ vs) z = λ i. z 0 i ∷ all-zeros vs (λ k. z (suc k)) i
 
-pub cleared : (k f e p n a i sp vs vs' : List ℕ) (c : ℕ) (s : State) → Cleared k f e p n a i sp c s → length vs ≡ c → Wiped vs 0 vs' →
+pub cleared : (k f e p n a i sp vs vs' : List ℕ) (c : ℕ) (s : State) → Cleared k f e p n a i sp c s → length vs ≡ c → Wiped vs vs' →
     CacheCleared k f e p n a i sp vs' c s
 cleared k f e p n a i sp vs vs' c s made len wiped b l = record {
   table = made b l;
-  values = all-zeros vs' (λ x. wiped .zero x (omega arith)) ∙ ap (λ (m : ℕ). replicate m 0) (wiped .size ∙ len);
+  values = all-zeros vs' (wiped .zero) ∙ ap (λ (m : ℕ). replicate m 0) (wiped .size ∙ len);
   formed = newCache-formed c;
 }
 
@@ -77,9 +76,9 @@ pub clear-does : (t : CacheTables) (s : State) (k' f' e' p' n' a' i' sp' vs' : L
     Does cache (cacheCalls Clear) t s (replies.done []) (withValues (tables k' f' e' p' n' a' i' (t .base .buckets) sp') vs') s'
 unfolding cacheCalls does cacheClear
 clear-does t s k' f' e' p' n' a' i' sp' vs' s' made c h =
-    let cap = h .table .carries .capacity in
+    let cap = h .table .capacity in
     record {
       answer = refl;
-      holds = rw cap at (made (t .base .buckets) (rw cap (h .table .carries .sized .buckets-size)));
+      holds = rw cap at (made (t .base .buckets) (rw cap (h .table .sized .buckets-size)));
       leaves = λ b e. done-refused [] b e;
     }

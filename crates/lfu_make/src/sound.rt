@@ -22,8 +22,8 @@ pub fn make(
     ensures { λ r. ⌜ CacheCleared
         (now (keys .exit)) (now (freqs .exit)) (now (epochs .exit)) (now (prevs .exit)) (now (nexts .exit)) (now (arena .exit)) (now (index .exit)) (now (spares .exit)) (now (values .exit)) capacity r ⌝ }
 {
-    buckets_tables::sound::wipe(values, 0);
-    buckets_rebuild::sound::make(
+    buckets_tables::sound::wipe(values);
+    buckets_tables::sound::make(
         keys,
         freqs,
         epochs,

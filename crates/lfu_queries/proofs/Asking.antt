@@ -17,7 +17,7 @@ use Rattle.cache_tables.specs.Lent.{cache}
 
 pub with-values : (k f e p n a i b sp vs : List ℕ) (s : State) → Sound cache (withValues (tables k f e p n a i b sp) vs) s → IndexSound i k × (length vs ≡ length k)
 with-values k f e p n a i b sp vs s w =
-    let h = w .1 .table .carries in
+    let h = w .1 .table in
     (h .index-sound, ap (λ (us : List ℕ). length us) (w .1 .values) ∙ w .1 .formed .fits ∙ sym (h .sized .keys-size))
 
 -- the buckets' count is the cache's

@@ -167,6 +167,10 @@ distinct-append (x ∷ us) vs d e a = (
   distinct-append us vs (d .1) e (all-map (λ y. Without y (x ∷ us)) (λ y. Without y us) (λ y w. w .1) vs a),
 )
 
+pub distinct-right : (us vs : List ℕ) → Distinct (us ++ vs) → Distinct vs
+distinct-right [] vs d = d
+distinct-right (x ∷ us) vs d = distinct-right us vs (d .1)
+
 pub distinct-apart : (us vs : List ℕ) → Distinct (us ++ vs) → All (λ y. Without y us) vs
 distinct-apart [] vs d = all-any (λ y. Without y []) (λ y. tt) vs
 distinct-apart (x ∷ us) vs d =

@@ -17,6 +17,7 @@ raised cap f = cond (ltb f cap) (f + 1) f
 abbrev pub capOf : ℕ → ℕ
 capOf cap = max cap FIRST
 
--- half, rounded down, but at least the first level
-abbrev pub halved : ℕ → ℕ
-halved f = max (f / 2) FIRST
+-- n halvings: f / 2^n rounded down, but at least the first level, which it is for n of 64 or more. What `let` names is computed only where it is
+-- asked for, so that no larger power of 2 ever is.
+abbrev pub halvedTimes : (n f : ℕ) → ℕ
+halvedTimes n f = let halves = max (f / 2 ^ n) FIRST in cond (ltb n 64) halves FIRST

@@ -2,7 +2,7 @@
 ghost use mathlib.Core.Path.{_≡_};
 ghost use mathlib.Core.Bool.{true};
 ghost use mathlib.Core.Logic.{_↔_};
-ghost use Rattle.numbers.specs.Frequency.{raised, halved, capOf, CEILING};
+ghost use Rattle.numbers.specs.Frequency.{raised, halvedTimes, capOf, CEILING};
 ghost use Rattle.numbers.specs.Answer.{numberOf};
 ghost use Rattle.numbers.specs.declared.Answer.the-variants.{Done};
 
@@ -47,15 +47,18 @@ impl Frequency {
         self
     }
 
-    // Half of the level, rounded down, but never below the first.
-    pub fn halved(self) -> Frequency
-        ensures { λ r. ⌜ r .0 ≡ halved (self .0) ⌝ }
+    // Half of the level n times over, rounded down, but never below the first.
+    pub fn halved_times(self, n: u64) -> Frequency
+        ensures { λ r. ⌜ r .0 ≡ halvedTimes n (self .0) ⌝ }
     {
-        let half = self.0 / 2;
-        if half < 1 {
-            return Frequency::FIRST;
+        if n < 64 {
+            let halves = self.0 >> n;
+            if halves < 1 {
+                return Frequency::FIRST;
+            }
+            return Frequency(halves);
         }
-        Frequency(half)
+        Frequency::FIRST
     }
 
     // The level as a cap: 0 is read as 1.

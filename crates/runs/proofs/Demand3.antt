@@ -62,9 +62,9 @@ log-back (a ∷ as′) c = λ i. event-back a c i ∷ log-back as′ (does a c .
 step : (a : CacheCall) (t : CacheTables) (s : State) (c : Cache) (r : Reply) (u : CacheTables) (z : State) → CacheHolds t s c → Makes cache a t s r u z →
     DoesOn cache (cacheCalls a) t s c r u z
 step a t s c r u z h m =
-    let cap = h .table .carries .capacity in
-    let lim = h .table .carries .limit in
-    let sized = subst (Sized (t .base)) (sym cap) (h .table .carries .sized) in
+    let cap = h .table .capacity in
+    let lim = h .table .limit in
+    let sized = subst (Sized (t .base)) (sym cap) (h .table .sized) in
     let filled = ap (λ (us : List ℕ). length us) (h .values) ∙ h .formed .fits ∙ sym cap in
     subst (By cache (cacheCalls a) t s r u z) (reads-one cache cache-holds-one t s (m .0) (ledger c) (m .1) (omega arith, (sized, filled), h)) (m .2)
 

@@ -142,7 +142,7 @@ module _ (t : CacheTables) (s : State) (input : List ℕ) (n : ℕ) (inside : n 
         let done = part c input (fed .next) in
         let e = rest-run c (f .whole) in
         let size : length (take n input) ≡ n = length-take-le n input inside in
-        let last = last-is (done .cache) rest (n - fed .next) (fed .state .count) rest-size (f .holds .table .carries .count) in
+        let last = last-is (done .cache) rest (n - fed .next) (fed .state .count) rest-size (f .holds .table .count) in
         record {
           printed = closed .writes .written ∙ ap (λ (l : List ℕ). l ++ closing n (n - fed .next) (fed .state .count)) (f .printed) ∙ sym (rw (size, e, sym last) (by-full (ltb n PART) (done .printed) (text (lastOf (n - fed .next) (fed .state .count)))));
           holds = subst (λ (x : Run). CacheHolds t' (fed .state) (x .cache)) (sym e) (f .holds);

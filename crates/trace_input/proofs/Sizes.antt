@@ -7,7 +7,7 @@ use lib.ListN.{length, take, drop, replicate, length-replicate}
 use lib.Seq.{length-take-le, length-front}
 use Rattle.buckets_tables.specs.Tables.{tables}
 use Rattle.buckets_tables.specs.Calls.{Fitting}
-use Rattle.buckets_rebuild.proofs.Renewed.{sized-fitting}
+use Rattle.buckets_tables.proofs.Clearing.{sized-fitting}
 use Rattle.cache_tables.specs.Tables.{withValues}
 use Rattle.trace.specs.Output.{SLOTS}
 use Rattle.trace_input.specs.Feeding.{Sizes}

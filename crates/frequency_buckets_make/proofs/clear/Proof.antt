@@ -4,7 +4,7 @@ use borrow.Author.Needs.{needs}
 use Rattle.ledger.specs.BucketCalls.{calls, Clear}
 use Rattle.buckets_tables.proofs.Public as public
 use Rattle.buckets_calls.proofs.Plain.{plain-refused}
-use Rattle.buckets_rebuild.proofs.Renewed.{sound-fitting, clear-does}
+use Rattle.buckets_tables.proofs.Clearing.{sound-fitting, clear-does}
 use Rattle.frequency_buckets_make.proofs.clear.Statement.{statement}
 use Rattle.frequency_buckets_make.proofs.clear.Tie as tie
 

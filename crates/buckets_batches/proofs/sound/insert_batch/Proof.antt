@@ -47,31 +47,31 @@ loop-again : tie.Need-loop-again Inv-loop μ-loop
 loop-again c = laws.batching-more _ _ _ _ _ _ _ _ (c .before .before .before .before .before .before .before .before .before .before .before .before .before .before .before .before .before .before .before .before .before .before .before .before .before .before .before .before .before .before .before .before .loop .inv) (c .before .before .before .before .before .before .before .before .before .before .before .before .before .before .before .before .before .before .before .before .before .before .before .before .before .before .before .before .before .before .before .loop-test .taken) _ _ _ (c .before .before .before .before .before .before .before .before .before .before .before .before .before .before .before .before .before .before .before .before .insert .ensures) _ (c .done-once .ensures)
 
 same-length : tie.Need-same-length Inv-loop μ-loop
-same-length c = let w = c .before .before .before .before .before .before .before .before .before .before .before .before .pre in laws.batching-sized _ _ _ _ _ _ _ _ (c .before .loop .inv) w .keys-size ∙ sym (w .1 .carries .sized .keys-size)
+same-length c = let w = c .before .before .before .before .before .before .before .before .before .before .before .before .pre in laws.batching-sized _ _ _ _ _ _ _ _ (c .before .loop .inv) w .keys-size ∙ sym (w .1 .sized .keys-size)
 
 same-length-2 : tie.Need-same-length-2 Inv-loop μ-loop
-same-length-2 c = let w = c .before .before .before .before .before .before .before .before .before .before .before .before .pre in laws.batching-sized _ _ _ _ _ _ _ _ (c .before .loop .inv) w .freqs-size ∙ sym (w .1 .carries .sized .freqs-size)
+same-length-2 c = let w = c .before .before .before .before .before .before .before .before .before .before .before .before .pre in laws.batching-sized _ _ _ _ _ _ _ _ (c .before .loop .inv) w .freqs-size ∙ sym (w .1 .sized .freqs-size)
 
 same-length-3 : tie.Need-same-length-3 Inv-loop μ-loop
-same-length-3 c = let w = c .before .before .before .before .before .before .before .before .before .before .before .before .pre in laws.batching-sized _ _ _ _ _ _ _ _ (c .before .loop .inv) w .epochs-size ∙ sym (w .1 .carries .sized .epochs-size)
+same-length-3 c = let w = c .before .before .before .before .before .before .before .before .before .before .before .before .pre in laws.batching-sized _ _ _ _ _ _ _ _ (c .before .loop .inv) w .epochs-size ∙ sym (w .1 .sized .epochs-size)
 
 same-length-4 : tie.Need-same-length-4 Inv-loop μ-loop
-same-length-4 c = let w = c .before .before .before .before .before .before .before .before .before .before .before .before .pre in laws.batching-sized _ _ _ _ _ _ _ _ (c .before .loop .inv) w .prevs-size ∙ sym (w .1 .carries .sized .prevs-size)
+same-length-4 c = let w = c .before .before .before .before .before .before .before .before .before .before .before .before .pre in laws.batching-sized _ _ _ _ _ _ _ _ (c .before .loop .inv) w .prevs-size ∙ sym (w .1 .sized .prevs-size)
 
 same-length-5 : tie.Need-same-length-5 Inv-loop μ-loop
-same-length-5 c = let w = c .before .before .before .before .before .before .before .before .before .before .before .before .pre in laws.batching-sized _ _ _ _ _ _ _ _ (c .before .loop .inv) w .nexts-size ∙ sym (w .1 .carries .sized .nexts-size)
+same-length-5 c = let w = c .before .before .before .before .before .before .before .before .before .before .before .before .pre in laws.batching-sized _ _ _ _ _ _ _ _ (c .before .loop .inv) w .nexts-size ∙ sym (w .1 .sized .nexts-size)
 
 same-length-6 : tie.Need-same-length-6 Inv-loop μ-loop
-same-length-6 c = let w = c .before .before .before .before .before .before .before .before .before .before .before .before .pre in laws.batching-sized _ _ _ _ _ _ _ _ (c .before .loop .inv) w .arena-size ∙ sym (w .1 .carries .sized .arena-size)
+same-length-6 c = let w = c .before .before .before .before .before .before .before .before .before .before .before .before .pre in laws.batching-sized _ _ _ _ _ _ _ _ (c .before .loop .inv) w .arena-size ∙ sym (w .1 .sized .arena-size)
 
 same-length-7 : tie.Need-same-length-7 Inv-loop μ-loop
-same-length-7 c = let w = c .before .before .before .before .before .before .before .before .before .before .before .before .pre in laws.batching-sized _ _ _ _ _ _ _ _ (c .before .loop .inv) w .index-size ∙ sym (w .1 .carries .sized .index-size)
+same-length-7 c = let w = c .before .before .before .before .before .before .before .before .before .before .before .before .pre in laws.batching-sized _ _ _ _ _ _ _ _ (c .before .loop .inv) w .index-size ∙ sym (w .1 .sized .index-size)
 
 same-length-8 : tie.Need-same-length-8 Inv-loop μ-loop
-same-length-8 c = let w = c .before .before .before .before .before .before .before .before .before .before .before .before .pre in laws.batching-sized _ _ _ _ _ _ _ _ (c .before .loop .inv) w .buckets-size ∙ sym (w .1 .carries .sized .buckets-size)
+same-length-8 c = let w = c .before .before .before .before .before .before .before .before .before .before .before .before .pre in laws.batching-sized _ _ _ _ _ _ _ _ (c .before .loop .inv) w .buckets-size ∙ sym (w .1 .sized .buckets-size)
 
 same-length-9 : tie.Need-same-length-9 Inv-loop μ-loop
-same-length-9 c = let w = c .before .before .before .before .before .before .before .before .before .before .before .before .pre in laws.batching-sized _ _ _ _ _ _ _ _ (c .before .loop .inv) w .spares-size ∙ sym (w .1 .carries .sized .spares-size)
+same-length-9 c = let w = c .before .before .before .before .before .before .before .before .before .before .before .before .pre in laws.batching-sized _ _ _ _ _ _ _ _ (c .before .loop .inv) w .spares-size ∙ sym (w .1 .sized .spares-size)
 
 returns : tie.Need-returns Inv-loop μ-loop
 returns c = laws.inserts-end _ _ _ _ _ _ _ (c .loop-test .left) (c .before .loop .inv)

@@ -48,22 +48,22 @@ loop-again : tie.Need-loop-again Inv-loop μ-loop
 loop-again c = λ a. laws.batching-more _ _ _ _ _ _ _ _ (c .before .before .before .before .before .before .before .before .before .before .before .before .before .before .before .before .before .before .before .before .before .before .before .loop .inv a) (c .before .before .before .before .before .before .before .before .before .before .before .before .before .before .before .before .before .before .before .before .before .before .loop-test .taken) _ _ _ (c .before .before .before .before .before .before .before .before .before .before .before .before .before .before .touch .ensures a) _ (c .leveled-once .ensures)
 
 same-length : tie.Need-same-length Inv-loop μ-loop
-same-length c = let w = c .before .before .before .before .before .before .before .before .before .before .before .pre in laws.batching-sized _ _ _ _ _ _ _ _ (c .before .loop .inv (w .0)) (w .1) .freqs-size ∙ sym (w .1 .1 .carries .sized .freqs-size)
+same-length c = let w = c .before .before .before .before .before .before .before .before .before .before .before .pre in laws.batching-sized _ _ _ _ _ _ _ _ (c .before .loop .inv (w .0)) (w .1) .freqs-size ∙ sym (w .1 .1 .sized .freqs-size)
 
 same-length-2 : tie.Need-same-length-2 Inv-loop μ-loop
-same-length-2 c = let w = c .before .before .before .before .before .before .before .before .before .before .before .pre in laws.batching-sized _ _ _ _ _ _ _ _ (c .before .loop .inv (w .0)) (w .1) .epochs-size ∙ sym (w .1 .1 .carries .sized .epochs-size)
+same-length-2 c = let w = c .before .before .before .before .before .before .before .before .before .before .before .pre in laws.batching-sized _ _ _ _ _ _ _ _ (c .before .loop .inv (w .0)) (w .1) .epochs-size ∙ sym (w .1 .1 .sized .epochs-size)
 
 same-length-3 : tie.Need-same-length-3 Inv-loop μ-loop
-same-length-3 c = let w = c .before .before .before .before .before .before .before .before .before .before .before .pre in laws.batching-sized _ _ _ _ _ _ _ _ (c .before .loop .inv (w .0)) (w .1) .prevs-size ∙ sym (w .1 .1 .carries .sized .prevs-size)
+same-length-3 c = let w = c .before .before .before .before .before .before .before .before .before .before .before .pre in laws.batching-sized _ _ _ _ _ _ _ _ (c .before .loop .inv (w .0)) (w .1) .prevs-size ∙ sym (w .1 .1 .sized .prevs-size)
 
 same-length-4 : tie.Need-same-length-4 Inv-loop μ-loop
-same-length-4 c = let w = c .before .before .before .before .before .before .before .before .before .before .before .pre in laws.batching-sized _ _ _ _ _ _ _ _ (c .before .loop .inv (w .0)) (w .1) .nexts-size ∙ sym (w .1 .1 .carries .sized .nexts-size)
+same-length-4 c = let w = c .before .before .before .before .before .before .before .before .before .before .before .pre in laws.batching-sized _ _ _ _ _ _ _ _ (c .before .loop .inv (w .0)) (w .1) .nexts-size ∙ sym (w .1 .1 .sized .nexts-size)
 
 same-length-5 : tie.Need-same-length-5 Inv-loop μ-loop
-same-length-5 c = let w = c .before .before .before .before .before .before .before .before .before .before .before .pre in laws.batching-sized _ _ _ _ _ _ _ _ (c .before .loop .inv (w .0)) (w .1) .buckets-size ∙ sym (w .1 .1 .carries .sized .buckets-size)
+same-length-5 c = let w = c .before .before .before .before .before .before .before .before .before .before .before .pre in laws.batching-sized _ _ _ _ _ _ _ _ (c .before .loop .inv (w .0)) (w .1) .buckets-size ∙ sym (w .1 .1 .sized .buckets-size)
 
 same-length-6 : tie.Need-same-length-6 Inv-loop μ-loop
-same-length-6 c = let w = c .before .before .before .before .before .before .before .before .before .before .before .pre in laws.batching-sized _ _ _ _ _ _ _ _ (c .before .loop .inv (w .0)) (w .1) .spares-size ∙ sym (w .1 .1 .carries .sized .spares-size)
+same-length-6 c = let w = c .before .before .before .before .before .before .before .before .before .before .before .pre in laws.batching-sized _ _ _ _ _ _ _ _ (c .before .loop .inv (w .0)) (w .1) .spares-size ∙ sym (w .1 .1 .sized .spares-size)
 
 returns : tie.Need-returns Inv-loop μ-loop
 returns c = λ a. laws.touches-end _ _ _ _ _ _ _ (c .loop-test .left) (c .before .loop .inv a)

@@ -7,7 +7,7 @@ use Rattle.buckets_calls.proofs.sound.pop_min.Statement.{statement}
 use Rattle.buckets_calls.proofs.sound.pop_min.Tie as tie
 
 lowest-requires : tie.Need-lowest-requires
-lowest-requires c κs = let w = c .before .before .before .before .before .before .before .before .before .before .pre .1 .carries in (_, _, _, _, (w .slots, w .lists))
+lowest-requires c κs = let w = c .before .before .before .before .before .before .before .before .before .before .pre .1 in (_, _, _, _, (w .slots, w .lists))
 
 same-length : tie.Need-same-length
 same-length c = refl

@@ -7,7 +7,7 @@ use Rattle.buckets_reads.proofs.sound.peek_min.Statement.{statement}
 use Rattle.buckets_reads.proofs.sound.peek_min.Tie as tie
 
 lowest-requires : tie.Need-lowest-requires
-lowest-requires c κs = let w = c .before .before .before .pre .6 .1 .carries in (_, _, _, _, (w .slots, w .lists))
+lowest-requires c κs = let w = c .before .before .before .pre .6 .1 in (_, _, _, _, (w .slots, w .lists))
 
 returns : tie.Need-returns
 returns c = λ e p n a i sp. telling.peek-empty _ _ _ (λ l h. c .before .before .lowest .ensures .answer _ _ _ _ _ (h .lists)) (c .if1 .taken)

@@ -1,4 +1,4 @@
--- The slot is touched in the lists and gets the epoch; `hit-so` says what the tables carry then.
+-- The slot is touched in the lists and gets the epoch; `hit-so` says what the tables hold then.
 use mathlib.Core.Path.{refl}
 use borrow.Author.Needs.{needs}
 use Rattle.buckets_tables.proofs.Asked as asked

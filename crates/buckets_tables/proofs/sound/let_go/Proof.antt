@@ -1,11 +1,11 @@
--- The slot leaves the index and its level and goes to the free order; `gone-so` says what the tables carry then.
+-- The slot leaves the index and its level and goes to the free order; `gone-so` says what the tables hold then.
 use borrow.Author.Needs.{needs}
 use Rattle.buckets_tables.proofs.Asked as asked
 use Rattle.buckets_tables.proofs.sound.let_go.Statement.{statement}
 use Rattle.buckets_tables.proofs.sound.let_go.Tie as tie
 
 leave-entry-requires : tie.Need-leave-entry-requires
-leave-entry-requires c κs = let bound = c .before .before .before .before .before .before .before .before .before .before .before .before .pre in let slot = asked.slot-sized _ _ _ bound in (bound .carries .index-sound, slot .0, slot .1)
+leave-entry-requires c κs = let bound = c .before .before .before .before .before .before .before .before .before .before .before .before .pre in let slot = asked.slot-sized _ _ _ bound in (bound .holds .index-sound, slot .0, slot .1)
 
 unbind-requires : tie.Need-unbind-requires
 unbind-requires c κs = asked.slot-in-lists _ _ _ (c .before .before .before .before .before .before .before .before .before .before .before .before .before .before .before .before .before .before .before .before .before .before .before .before .pre)

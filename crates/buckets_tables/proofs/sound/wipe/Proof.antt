@@ -1,4 +1,4 @@
--- `wipe`: what was passed is 0, what lies before the start is as it was.
+-- `wipe`: what was passed is 0.
 use Prim.Native.Nat.{_-_}
 use native.Mathlib.Omega.{arith}
 use lib.ListN.{length, length-set}
@@ -8,13 +8,13 @@ use Rattle.buckets_tables.proofs.sound.wipe.Statement.{statement}
 use Rattle.buckets_tables.proofs.sound.wipe.Tie as tie
 
 abbrev Inv-loop : tie.InvT-loop
-Inv-loop t₀ from i₀ t i = Wiping t₀ from t i
+Inv-loop t₀ i₀ t i = Wiping t₀ t i
 
 abbrev μ-loop : tie.MeasureT-loop
-μ-loop t₀ from i₀ t i = length t - i
+μ-loop t₀ i₀ t i = length t - i
 
 loop-holds : tie.Need-loop-holds Inv-loop μ-loop
-loop-holds c = wiping-start _ _
+loop-holds c = wiping-start _
 
 mul-t : tie.Need-mul-t Inv-loop μ-loop
 mul-t c = search needs

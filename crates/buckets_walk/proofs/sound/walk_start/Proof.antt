@@ -5,7 +5,7 @@ use Rattle.buckets_walk.proofs.sound.walk_start.Statement.{statement}
 use Rattle.buckets_walk.proofs.sound.walk_start.Tie as tie
 
 head-requires : tie.Need-head-requires
-head-requires c κs = let w = c .before .before .before .pre .6 .1 .carries in (_, _, _, _, (w .slots, w .lists))
+head-requires c κs = let w = c .before .before .before .pre .6 .1 in (_, _, _, _, (w .slots, w .lists))
 
 returns : tie.Need-returns
 returns c = laws.start-past _ _ _ _ _ _ (c .before .before .head .ensures) (c .if1 .taken)

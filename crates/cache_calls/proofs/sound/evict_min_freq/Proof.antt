@@ -7,7 +7,7 @@ use Rattle.cache_calls.proofs.sound.evict_min_freq.Statement.{statement
 use Rattle.cache_calls.proofs.sound.evict_min_freq.Tie as tie
 
 lowest-requires : tie.Need-lowest-requires
-lowest-requires c κs = let w = c .before .before .before .before .before .before .before .before .before .before .before .pre .1 .table .carries in (_, _, _, _, (w .slots, w .lists))
+lowest-requires c κs = let w = c .before .before .before .before .before .before .before .before .before .before .before .pre .1 .table in (_, _, _, _, (w .slots, w .lists))
 
 same-length : tie.Need-same-length
 same-length c = search needs

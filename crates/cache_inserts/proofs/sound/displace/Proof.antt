@@ -8,7 +8,7 @@ use Rattle.cache_inserts.proofs.sound.displace.Statement.{statement}
 use Rattle.cache_inserts.proofs.sound.displace.Tie as tie
 
 lowest-requires : tie.Need-lowest-requires
-lowest-requires c κs = let w = c .before .before .before .before .before .before .before .before .before .before .pre .unbound .sound .1 .carries in (_, _, _, _, (w .slots, w .lists))
+lowest-requires c κs = let w = c .before .before .before .before .before .before .before .before .before .before .pre .unbound .sound .1 in (_, _, _, _, (w .slots, w .lists))
 
 same-length : tie.Need-same-length
 same-length c = search needs

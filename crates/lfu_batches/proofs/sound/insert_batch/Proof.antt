@@ -55,31 +55,31 @@ loop-again : tie.Need-loop-again Inv-loop μ-loop
 loop-again c = laws.batching-more _ _ _ _ _ _ _ _ _ (c .before .before .before .before .before .before .before .before .before .before .before .before .before .before .before .before .before .before .before .before .before .before .before .before .before .before .before .before .before .before .before .before .before .before .before .before .loop .inv) _ _ (laws.left-pairs _ _ _ (c .before .before .before .before .before .before .before .before .before .before .before .before .before .before .before .before .before .before .before .before .before .before .before .before .before .before .before .before .before .before .before .before .before .before .before .before .before .before .before .before .before .before .before .before .before .before .before .before .before .pre .1) (c .before .before .before .before .before .before .before .before .before .before .before .before .before .before .before .before .before .before .before .before .before .before .before .before .before .before .before .before .before .before .before .before .before .before .before .loop-test .taken)) _ _ _ (c .before .before .before .before .before .before .before .before .before .before .before .before .before .before .before .before .before .before .before .before .before .before .insert .ensures) _ (c .bound-once .ensures)
 
 same-length : tie.Need-same-length Inv-loop μ-loop
-same-length c = let w = c .before .before .before .before .before .before .before .before .before .before .before .before .before .before .pre .0 in laws.batching-sized _ _ _ _ _ _ _ _ _ (c .before .loop .inv) w .0 .keys-size ∙ sym (w .1 .table .carries .sized .keys-size)
+same-length c = let w = c .before .before .before .before .before .before .before .before .before .before .before .before .before .before .pre .0 in laws.batching-sized _ _ _ _ _ _ _ _ _ (c .before .loop .inv) w .0 .keys-size ∙ sym (w .1 .table .sized .keys-size)
 
 same-length-2 : tie.Need-same-length-2 Inv-loop μ-loop
-same-length-2 c = let w = c .before .before .before .before .before .before .before .before .before .before .before .before .before .before .pre .0 in laws.batching-sized _ _ _ _ _ _ _ _ _ (c .before .loop .inv) w .0 .freqs-size ∙ sym (w .1 .table .carries .sized .freqs-size)
+same-length-2 c = let w = c .before .before .before .before .before .before .before .before .before .before .before .before .before .before .pre .0 in laws.batching-sized _ _ _ _ _ _ _ _ _ (c .before .loop .inv) w .0 .freqs-size ∙ sym (w .1 .table .sized .freqs-size)
 
 same-length-3 : tie.Need-same-length-3 Inv-loop μ-loop
-same-length-3 c = let w = c .before .before .before .before .before .before .before .before .before .before .before .before .before .before .pre .0 in laws.batching-sized _ _ _ _ _ _ _ _ _ (c .before .loop .inv) w .0 .epochs-size ∙ sym (w .1 .table .carries .sized .epochs-size)
+same-length-3 c = let w = c .before .before .before .before .before .before .before .before .before .before .before .before .before .before .pre .0 in laws.batching-sized _ _ _ _ _ _ _ _ _ (c .before .loop .inv) w .0 .epochs-size ∙ sym (w .1 .table .sized .epochs-size)
 
 same-length-4 : tie.Need-same-length-4 Inv-loop μ-loop
-same-length-4 c = let w = c .before .before .before .before .before .before .before .before .before .before .before .before .before .before .pre .0 in laws.batching-sized _ _ _ _ _ _ _ _ _ (c .before .loop .inv) w .0 .prevs-size ∙ sym (w .1 .table .carries .sized .prevs-size)
+same-length-4 c = let w = c .before .before .before .before .before .before .before .before .before .before .before .before .before .before .pre .0 in laws.batching-sized _ _ _ _ _ _ _ _ _ (c .before .loop .inv) w .0 .prevs-size ∙ sym (w .1 .table .sized .prevs-size)
 
 same-length-5 : tie.Need-same-length-5 Inv-loop μ-loop
-same-length-5 c = let w = c .before .before .before .before .before .before .before .before .before .before .before .before .before .before .pre .0 in laws.batching-sized _ _ _ _ _ _ _ _ _ (c .before .loop .inv) w .0 .nexts-size ∙ sym (w .1 .table .carries .sized .nexts-size)
+same-length-5 c = let w = c .before .before .before .before .before .before .before .before .before .before .before .before .before .before .pre .0 in laws.batching-sized _ _ _ _ _ _ _ _ _ (c .before .loop .inv) w .0 .nexts-size ∙ sym (w .1 .table .sized .nexts-size)
 
 same-length-6 : tie.Need-same-length-6 Inv-loop μ-loop
-same-length-6 c = let w = c .before .before .before .before .before .before .before .before .before .before .before .before .before .before .pre .0 in laws.batching-sized _ _ _ _ _ _ _ _ _ (c .before .loop .inv) w .0 .arena-size ∙ sym (w .1 .table .carries .sized .arena-size)
+same-length-6 c = let w = c .before .before .before .before .before .before .before .before .before .before .before .before .before .before .pre .0 in laws.batching-sized _ _ _ _ _ _ _ _ _ (c .before .loop .inv) w .0 .arena-size ∙ sym (w .1 .table .sized .arena-size)
 
 same-length-7 : tie.Need-same-length-7 Inv-loop μ-loop
-same-length-7 c = let w = c .before .before .before .before .before .before .before .before .before .before .before .before .before .before .pre .0 in laws.batching-sized _ _ _ _ _ _ _ _ _ (c .before .loop .inv) w .0 .index-size ∙ sym (w .1 .table .carries .sized .index-size)
+same-length-7 c = let w = c .before .before .before .before .before .before .before .before .before .before .before .before .before .before .pre .0 in laws.batching-sized _ _ _ _ _ _ _ _ _ (c .before .loop .inv) w .0 .index-size ∙ sym (w .1 .table .sized .index-size)
 
 same-length-8 : tie.Need-same-length-8 Inv-loop μ-loop
-same-length-8 c = let w = c .before .before .before .before .before .before .before .before .before .before .before .before .before .before .pre .0 in laws.batching-sized _ _ _ _ _ _ _ _ _ (c .before .loop .inv) w .0 .buckets-size ∙ sym (w .1 .table .carries .sized .buckets-size)
+same-length-8 c = let w = c .before .before .before .before .before .before .before .before .before .before .before .before .before .before .pre .0 in laws.batching-sized _ _ _ _ _ _ _ _ _ (c .before .loop .inv) w .0 .buckets-size ∙ sym (w .1 .table .sized .buckets-size)
 
 same-length-9 : tie.Need-same-length-9 Inv-loop μ-loop
-same-length-9 c = let w = c .before .before .before .before .before .before .before .before .before .before .before .before .before .before .pre .0 in laws.batching-sized _ _ _ _ _ _ _ _ _ (c .before .loop .inv) w .0 .spares-size ∙ sym (w .1 .table .carries .sized .spares-size)
+same-length-9 c = let w = c .before .before .before .before .before .before .before .before .before .before .before .before .before .before .pre .0 in laws.batching-sized _ _ _ _ _ _ _ _ _ (c .before .loop .inv) w .0 .spares-size ∙ sym (w .1 .table .sized .spares-size)
 
 same-length-10 : tie.Need-same-length-10 Inv-loop μ-loop
 same-length-10 c = let w = c .before .before .before .before .before .before .before .before .before .before .before .before .before .before .pre .0 in laws.batching-sized _ _ _ _ _ _ _ _ _ (c .before .loop .inv) w .1 ∙ sym (ap (λ (us : List ℕ). length us) (w .1 .values) ∙ w .1 .formed .fits)

@@ -7,7 +7,7 @@ use Rattle.cache_calls.proofs.sound.reads.peek_lfu.Statement.{statement
 use Rattle.cache_calls.proofs.sound.reads.peek_lfu.Tie as tie
 
 lowest-requires : tie.Need-lowest-requires
-lowest-requires c κs = let w = c .before .before .before .pre .7 .1 .table .carries in (_, _, _, _, (w .slots, w .lists))
+lowest-requires c κs = let w = c .before .before .before .pre .7 .1 .table in (_, _, _, _, (w .slots, w .lists))
 
 returns : tie.Need-returns
 returns c = λ f e p n a i sp. caching.peek-lfu-miss _ _ _ (caching.missed-least _ _ _ (λ l h. c .before .before .lowest .ensures .answer _ _ _ _ _ (h .lists)) (c .if1 .taken))

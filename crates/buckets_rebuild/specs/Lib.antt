@@ -1,4 +1,0 @@
-pub mod Change
-pub mod Gather
-pub mod Refill
-pub mod Calls

@@ -1,0 +1,4 @@
+pub mod Change
+pub mod Regroup
+pub mod Falls
+pub mod Calls
