@@ -1,7 +1,7 @@
 //! `drive`'s bucket calls, 1 to 22 and 60 to 62, on the original's frequency buckets.
 //!
 //! The original grows without bound. Document 01's fixed capacity is kept here, at the only calls that it concerns: an
-//! insert of an absent key with no free slot is FULL and never reaches the original.
+//! insert of an absent key with no free slot is FULL and never reaches the original. Slots are followed by document 02's rule.
 
 use crate::answers::{
     ABSENT, BAD, EMPTY, FULL, PRESENT, SKIP, batch_keys, done, pair_or, refused, value_or, walked, yes_or_no,
@@ -9,16 +9,18 @@ use crate::answers::{
 use crate::ds::FrequencyBuckets;
 use crate::input::Record;
 use crate::regrouping::{halved, rebased};
+use crate::slots::Slots;
 
 pub struct BoundedBuckets {
     buckets: FrequencyBuckets<u64>,
     capacity: usize,
+    slots: Slots,
 }
 
 impl BoundedBuckets {
     pub fn new(capacity: usize) -> Self {
         let buckets = FrequencyBuckets::with_capacity(capacity);
-        BoundedBuckets { buckets, capacity }
+        BoundedBuckets { buckets, capacity, slots: Slots::new(capacity) }
     }
 
     pub fn answer(&mut self, record: Record) -> String {
@@ -39,8 +41,8 @@ impl BoundedBuckets {
             1 => self.insert(key),
             2 => value_or(ABSENT, self.buckets.touch(&key)),
             3 => value_or(ABSENT, self.buckets.touch_capped(&key, record.second)),
-            4 => value_or(ABSENT, self.buckets.remove(&key)),
-            5 => pair_or(EMPTY, self.buckets.pop_min()),
+            4 => value_or(ABSENT, self.remove(key)),
+            5 => pair_or(EMPTY, self.pop_min()),
             _ => done(&[self.buckets.advance_epoch()]),
         }
     }
@@ -54,10 +56,13 @@ impl BoundedBuckets {
                 }
             }
             12 => self.buckets.set_epoch(record.first),
-            17 => self.buckets = halved(&self.buckets, self.capacity, 1),
-            18 => self.buckets = rebased(&self.buckets, self.capacity),
-            22 => self.buckets = halved(&self.buckets, self.capacity, record.first),
-            _ => self.buckets.clear(),
+            17 => self.buckets = halved(&self.buckets, 1),
+            18 => self.buckets = rebased(&self.buckets),
+            22 => self.buckets = halved(&self.buckets, record.first),
+            _ => {
+                self.buckets.clear();
+                self.slots.clear();
+            }
         }
         done(&[])
     }
@@ -86,7 +91,7 @@ impl BoundedBuckets {
 
     fn walk(&self, frequency: u64) -> String {
         let entries = self.buckets.iter_bucket_entries(frequency);
-        walked(entries.map(|(slot, entry)| (slot.index(), *entry.key, entry.last_epoch)))
+        walked(entries.map(|(_, entry)| (self.slots.of(*entry.key), *entry.key, entry.last_epoch)))
     }
 
     fn insert(&mut self, key: u64) -> String {
@@ -94,10 +99,23 @@ impl BoundedBuckets {
             return refused(FULL);
         }
         if self.buckets.insert(key) {
+            self.slots.bind(key);
             done(&[])
         } else {
             refused(PRESENT)
         }
+    }
+
+    fn remove(&mut self, key: u64) -> Option<u64> {
+        let frequency = self.buckets.remove(&key)?;
+        self.slots.release(key);
+        Some(frequency)
+    }
+
+    fn pop_min(&mut self) -> Option<(u64, u64)> {
+        let (key, frequency) = self.buckets.pop_min()?;
+        self.slots.release(key);
+        Some((key, frequency))
     }
 
     fn batch(&mut self, record: Record) -> String {
@@ -107,7 +125,7 @@ impl BoundedBuckets {
         let count = match record.operation {
             60 => self.insert_batch(keys),
             61 => self.buckets.touch_batch(keys),
-            _ => self.buckets.remove_batch(keys),
+            _ => self.remove_batch(keys),
         };
         done(&[count as u64])
     }
@@ -115,8 +133,16 @@ impl BoundedBuckets {
     /// The original's own batch where every key would find room, else key by key within the capacity.
     fn insert_batch(&mut self, keys: Vec<u64>) -> usize {
         if self.buckets.len() + keys.len() <= self.capacity {
+            let new = keys.iter().filter(|key| !self.buckets.contains(*key));
+            new.for_each(|key| self.slots.bind(*key));
             return self.buckets.insert_batch(keys);
         }
         keys.into_iter().filter(|key| self.insert(*key) == done(&[])).count()
+    }
+    /// The keys of a batch differ, so those that are bound before it are those that it removes.
+    fn remove_batch(&mut self, keys: Vec<u64>) -> usize {
+        let bound = keys.iter().filter(|key| self.buckets.contains(*key));
+        bound.for_each(|key| self.slots.release(*key));
+        self.buckets.remove_batch(keys)
     }
 }

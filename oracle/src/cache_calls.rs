@@ -8,19 +8,29 @@ use crate::cache_walk::walk;
 use crate::input::Record;
 use crate::insertion::{Insertion, insert};
 use crate::policy::lfu::LfuCache;
+use crate::slots::Slots;
 use crate::traits::Cache;
 use std::sync::Arc;
 
-pub struct JudgedCache(LfuCache<u64, u64>);
+/// The cache; a second one that is given the same calls, batches key by key, so that it is seen which key takes which slot; and
+/// the slots by document 02's rule.
+pub struct JudgedCache {
+    cache: LfuCache<u64, u64>,
+    stepwise: LfuCache<u64, u64>,
+    slots: Slots,
+}
 
 impl JudgedCache {
     pub fn new(capacity: usize) -> Self {
-        JudgedCache(LfuCache::new(capacity))
+        JudgedCache { cache: LfuCache::new(capacity), stepwise: LfuCache::new(capacity), slots: Slots::new(capacity) }
     }
 
     pub fn answer(&mut self, record: Record) -> String {
         match record.operation {
-            40..=48 => self.single(record),
+            40..=48 => {
+                self.follow(record.operation, record.first, record.second);
+                single(&mut self.cache, record)
+            }
             63..=65 => self.batch(record),
             2 | 8 | 14..=16 | 20 => self.passed_on(record),
             1..=22 | 30 | 31 | 49 | 60..=62 | 66 => SKIP.to_string(),
@@ -28,34 +38,47 @@ impl JudgedCache {
         }
     }
 
-    fn single(&mut self, record: Record) -> String {
-        let (cache, key) = (&mut self.0, record.first);
-        match record.operation {
-            40 => inserted(insert(cache, key, record.second)),
-            41 => value_or(ABSENT, cache.get(&key).map(|value| **value)),
-            42 => value_or(ABSENT, cache.peek(&key).map(|value| **value)),
-            43 => value_or(ABSENT, cache.remove(&key).map(|value| *value)),
+    /// Makes a single call on the second cache, and follows the slots that it hands out and takes back. A reset keeps its slot.
+    fn follow(&mut self, operation: u8, key: u64, value: u64) -> bool {
+        let cache = &mut self.stepwise;
+        match operation {
+            40 => match insert(cache, key, value) {
+                Insertion::New => self.slots.bind(key),
+                Insertion::NewWithVictim(victim) => {
+                    self.slots.release(victim);
+                    self.slots.bind(key);
+                }
+                Insertion::Old(_) | Insertion::Full => return false,
+            },
+            41 => return cache.get(&key).is_some(),
+            43 if cache.remove(&key).is_some() => self.slots.release(key),
             44 => {
                 cache.clear();
-                done(&[])
+                self.slots.clear();
             }
-            45 => pair_or(EMPTY, cache.peek_lfu().map(|(key, value)| (*key, **value))),
-            // evict_min_freq is private; pop_lfu calls it and, without metrics, does nothing else.
-            46 => pair_or(EMPTY, cache.pop_lfu().map(|(key, value)| (key, *value))),
-            47 => value_or(ABSENT, cache.reset_frequency(&key)),
-            _ => done(&[cache.len() as u64]),
+            46 => match cache.pop_lfu() {
+                Some((key, _)) => self.slots.release(key),
+                None => return false,
+            },
+            47 => return cache.reset_frequency(&key).is_some(),
+            _ => return false,
         }
+        true
     }
 
     fn batch(&mut self, record: Record) -> String {
         let Some(keys) = batch_keys(record.first, record.second) else {
             return BAD.to_string();
         };
+        // Insert, remove and get of each key: what the original's batch counts is how many of them were done.
+        let single = [40, 43, 41][usize::from(record.operation - 63)];
+        let stepwise = keys.iter().filter(|key| self.follow(single, **key, **key)).count();
         let count = match record.operation {
             63 => self.insert_batch(keys),
-            64 => self.0.remove_batch(keys),
-            _ => self.0.touch_batch(keys),
+            64 => self.cache.remove_batch(keys),
+            _ => self.cache.touch_batch(keys),
         };
+        assert_eq!(count, stepwise, "a batch is its single calls");
         done(&[count as u64])
     }
 
@@ -63,8 +86,8 @@ impl JudgedCache {
     /// counts newly bound keys, and so none.
     fn insert_batch(&mut self, keys: Vec<u64>) -> usize {
         let offered = keys.len();
-        let counted = self.0.insert_batch(keys.into_iter().map(|key| (key, Arc::new(key))));
-        if self.0.capacity() > 0 {
+        let counted = self.cache.insert_batch(keys.into_iter().map(|key| (key, Arc::new(key))));
+        if self.cache.capacity() > 0 {
             return counted;
         }
         assert_eq!(counted, offered, "at capacity 0 the original counts every item");
@@ -72,15 +95,37 @@ impl JudgedCache {
     }
 
     fn passed_on(&mut self, record: Record) -> String {
-        let (cache, key) = (&mut self.0, record.first);
+        let (cache, key) = (&mut self.cache, record.first);
         match record.operation {
-            2 => value_or(ABSENT, cache.increment_frequency(&key)),
+            2 => {
+                self.stepwise.increment_frequency(&key);
+                value_or(ABSENT, cache.increment_frequency(&key))
+            }
             8 => value_or(ABSENT, cache.frequency(&key)),
             14 => done(&[cache.len() as u64]),
             15 => yes_or_no(cache.len() == 0),
             16 => yes_or_no(cache.contains(&key)),
-            _ => walked(walk(cache, record.first).into_iter()),
+            _ => walked(walk(cache, record.first).into_iter().map(|(key, epoch)| (self.slots.of(key), key, epoch))),
         }
+    }
+}
+
+fn single(cache: &mut LfuCache<u64, u64>, record: Record) -> String {
+    let key = record.first;
+    match record.operation {
+        40 => inserted(insert(cache, key, record.second)),
+        41 => value_or(ABSENT, cache.get(&key).map(|value| **value)),
+        42 => value_or(ABSENT, cache.peek(&key).map(|value| **value)),
+        43 => value_or(ABSENT, cache.remove(&key).map(|value| *value)),
+        44 => {
+            cache.clear();
+            done(&[])
+        }
+        45 => pair_or(EMPTY, cache.peek_lfu().map(|(key, value)| (*key, **value))),
+        // evict_min_freq is private; pop_lfu calls it and, without metrics, does nothing else.
+        46 => pair_or(EMPTY, cache.pop_lfu().map(|(key, value)| (key, *value))),
+        47 => value_or(ABSENT, cache.reset_frequency(&key)),
+        _ => done(&[cache.len() as u64]),
     }
 }
 

@@ -1,8 +1,8 @@
 //! The walk of one frequency inside a cache.
 //!
 //! The cache's buckets are private, but the original derives `Debug` for the cache and all that it holds, so its text has
-//! every slot, link and list. The walk is read from that text: the original stays unchanged, and the order of the lists and
-//! the slots of a cache are compared all the same.
+//! every slot, link and list. The walk is read from that text: the original stays unchanged, and the order of the lists of a
+//! cache is compared all the same.
 
 use crate::policy::lfu::LfuCache;
 
@@ -12,8 +12,8 @@ struct Entry {
     key: u64,
 }
 
-/// Slot, key and epoch of each entry with the frequency, head first.
-pub fn walk(cache: &LfuCache<u64, u64>, frequency: u64) -> Vec<(usize, u64, u64)> {
+/// Key and epoch of each entry with the frequency, head first.
+pub fn walk(cache: &LfuCache<u64, u64>, frequency: u64) -> Vec<(u64, u64)> {
     let text = format!("{cache:?}");
     let buckets = after(&text, "buckets: FrequencyBuckets {").expect("a cache has buckets");
     let slots = slots(buckets);
@@ -21,7 +21,7 @@ pub fn walk(cache: &LfuCache<u64, u64>, frequency: u64) -> Vec<(usize, u64, u64)
     let mut entries = Vec::new();
     while let Some(slot) = current {
         let entry = slots[slot].as_ref().expect("a list holds bound slots");
-        entries.push((slot, entry.key, entry.last_epoch));
+        entries.push((entry.key, entry.last_epoch));
         current = entry.next;
     }
     entries

@@ -26,3 +26,4 @@ pub mod cache_walk;
 pub mod input;
 pub mod insertion;
 pub mod regrouping;
+pub mod slots;

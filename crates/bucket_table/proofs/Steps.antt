@@ -254,13 +254,13 @@ module _ (b sp : List ℕ) (s : Buckets) (r lo hi : ℕ) (elo : lo ≡ lower b r
 
 -- ---- `reset`
 
-pub resets : (sp sp' : List ℕ) (o : Order) → Filled sp 0 sp' o → RecordsReset sp sp' (record { bottom = NONE; top = NONE; spare = o })
+pub resets : (sp sp' : List ℕ) (o : Order) → Filled sp sp' o → RecordsReset sp sp' (record { bottom = NONE; top = NONE; spare = o })
 resets sp sp' o f = record {
   size = f .size;
   rows = λ b z. record {
     size = z ∙ ap (λ (k : ℕ). k * WORDS) (sym (f .size));
     ring = (look-end (higher b) NONE, look-end (lower b) NONE);
-    uses = uses-filled sp 0 sp' o (omega arith) f;
+    uses = uses-filled sp sp' o f;
     each = tt;
     rising = tt;
   };

@@ -247,7 +247,7 @@ pub fn reset(spares: &mut [u64]) -> Buckets
     requires { ⌜ length (now spares) ≤ LIMIT ⌝ }
     ensures { λ r. ⌜ RecordsReset (now (spares .entry)) (now (spares .exit)) r ⌝ }
 {
-    let spare = slot_arena::sound::fill(spares, 0);
+    let spare = slot_arena::sound::fill(spares);
     Buckets {
         bottom: NONE,
         top: NONE,

@@ -1,4 +1,4 @@
--- What binding, hitting and letting go ask of the layers below, and that they keep their promises: the needs of those three
+-- What binding, hitting, restarting and letting go ask of the layers below, and that they keep their promises: the needs of those four
 -- functions, each from one law of Steps.antt.
 use mathlib.Core.Path.{_≡_, refl, sym, ap, _∙_, subst}
 use mathlib.Core.List.{List}
@@ -6,11 +6,12 @@ use Prim.Native.Nat.{ℕ, _+_, _≤_, _<_, _^_, _-_}
 use native.Mathlib.Omega.{arith}
 use lib.ListN.{length, getD, set, length-set}
 use Rattle.numbers.specs.Frequency.{raised}
+use Rattle.numbers.specs.declared.Frequency.{Frequency}
 use Rattle.lists.specs.Lists.{In, Without, one}
 use Rattle.lists.proofs.Tests.{one-same}
 use Rattle.lists.proofs.Members.{in-length, in-sum}
 use Rattle.lists.proofs.Maps.{images-all}
-use Rattle.ledger.specs.Ledger.{Ledger, Item, items, put, release, move}
+use Rattle.ledger.specs.Ledger.{Ledger, Item, items, put, release, move, restart}
 use Rattle.ledger.proofs.Slots.{free-slot, bound-slot, size-and-free}
 use Rattle.slot_arena.specs.Arena as arena
 use Rattle.slot_arena.specs.declared.Taken.{Taken}
@@ -18,16 +19,16 @@ use Rattle.slot_arena.specs.declared.Order.{Order}
 use Rattle.bucket_table.specs.declared.Buckets.{Buckets}
 use Rattle.levels.specs.Levels as levels
 use Rattle.levels.specs.Levels.{Nowhere}
-use Rattle.levels.specs.Held.{Line, tabs, Held}
+use Rattle.levels.specs.Held.{Line, tabs}
 use Rattle.levels.specs.Calls as asks
-use Rattle.levels.specs.Calls.{LowestFrequency, SoundWith, SlotBound, LevelTouches, LevelBinds}
+use Rattle.levels.specs.Calls.{LowestFrequency, SoundWith, SlotBound, LevelTouches, LevelRestarts, LevelBinds}
 use Rattle.levels.specs.declared.Touched.{Touched}
 use Rattle.buckets_tables.specs.declared.State.{State}
 use Rattle.buckets_tables.specs.Tables.{Tables, tables, leveled, Sized}
 use Rattle.buckets_tables.specs.Holds.{BoundSlot, Holds}
-use Rattle.buckets_tables.specs.Calls.{recounted, Room, Binds, BoundIn, Hits, LetsGo, Vacant, EntersIndex, LeavesIndex}
+use Rattle.buckets_tables.specs.Calls.{recounted, Room, Binds, BoundIn, Hits, Restarts, LetsGo, Vacant, EntersIndex, LeavesIndex}
 use Rattle.buckets_tables.proofs.Places.{Place, bound-place, unbound-nowhere, only-there, there, in-there}
-use Rattle.buckets_tables.proofs.Steps.{free-unbound, put-holds, hit-holds, release-holds}
+use Rattle.buckets_tables.proofs.Steps.{free-unbound, held-there, put-holds, hit-holds, restart-holds, release-holds}
 
 -- a slot in no list is marked free
 next-own : (t : Tables) (s : State) (l : Ledger) (h : Holds t s l) (x : ℕ) → x < l .capacity → Nowhere x (h .slots) → getD (t .nexts) x 0 ≡ x
@@ -120,7 +121,7 @@ module _ (t : Tables) (s : State) (x : ℕ) (r : BoundIn t s x) where
 
   pub slot-in-lists : SlotBound (leveled t) (s .buckets) x
   slot-in-lists =
-      record { us = pl .us; freq = pl .freq; xs = pl .xs; ys = pl .ys; vs = pl .vs; held = subst (Held (leveled t) (s .buckets)) (pl .is) (r .holds .lists) }
+      record { us = pl .us; freq = pl .freq; xs = pl .xs; ys = pl .ys; vs = pl .vs; held = held-there t s (r .ledger) (r .holds) x pl }
 
   pub slot-sized : (x < length (t .keys)) × (x < length (t .epochs)) × (x < length (t .arena)) × (x < length (t .freqs))
   slot-sized =
@@ -145,6 +146,9 @@ module _ (t : Tables) (s : State) (x : ℕ) (r : BoundIn t s x) where
   pub hit-lists-sound : (cap : ℕ) (f' p' n' b' sp' : List ℕ) (o : Touched) → LevelTouches (leveled t) (s .buckets) x cap (tabs f' p' n' b' sp') o → SoundWith b' (o .state)
   hit-lists-sound cap f' p' n' b' sp' o touches = (f', p', n', sp', (_, touches .holds (slot-in-lists .us) (slot-in-lists .freq) (slot-in-lists .xs) (slot-in-lists .ys) (slot-in-lists .vs) (slot-in-lists .held)))
 
+  pub restart-lists-sound : (f' p' n' b' sp' : List ℕ) (bk : Buckets) → LevelRestarts (leveled t) (s .buckets) x (tabs f' p' n' b' sp') bk → SoundWith b' bk
+  restart-lists-sound f' p' n' b' sp' bk restarts = (f', p', n', sp', (_, restarts .holds (slot-in-lists .us) (slot-in-lists .freq) (slot-in-lists .xs) (slot-in-lists .ys) (slot-in-lists .vs) (slot-in-lists .held)))
+
   pub left-lists-sound : (f' p' n' b' sp' : List ℕ) (bk : Buckets) → asks.Unbinds (leveled t) (s .buckets) x (tabs f' p' n' b' sp') bk → SoundWith b' bk
   left-lists-sound f' p' n' b' sp' bk unbinds = (f', p', n', sp', (_, unbinds .holds (slot-in-lists .us) (slot-in-lists .freq) (slot-in-lists .xs) (slot-in-lists .ys) (slot-in-lists .vs) (slot-in-lists .held)))
 
@@ -156,23 +160,39 @@ at-place t s l h x y i q =
     let p = bound-place t s l h x b in
     (p, only-there t s l h x p y i q)
 
-pub hit-so : (f e p n b sp : List ℕ) (s : State) (x cap : ℕ) (f' p' n' b' sp' : List ℕ) (o : Touched) (e' : List ℕ) (low : ℕ) (s' : State) →
-    ((k a i : List ℕ) → LevelTouches (leveled (tables k f e p n a i b sp)) (s .buckets) x cap (tabs f' p' n' b' sp') o) → e' ≡ set e x (s .epoch) → LowestFrequency b' (o .state) low →
-    s' ≡ recounted s (s .count) low (s .free) (o .state) →
-    length f' ≡ length f → length p' ≡ length p → length n' ≡ length n → length b' ≡ length b → length sp' ≡ length sp →
-    Hits f e p n b sp s x cap f' e' p' n' b' sp' (record { frequency = o .frequency; state = s' })
-hit-so f e p n b sp s x cap f' p' n' b' sp' o e' low s' touches epochs-are reads after lf lp ln lb ls = record {
-  answer = λ k a i l y h j q.
-      let t = tables k f e p n a i b sp in
-      let w = at-place t s l h x y j q in
-      rw (w .1) (touches k a i .answer (w .0 .us) (w .0 .freq) (w .0 .xs) (w .0 .ys) (w .0 .vs) (subst (Held (leveled t) (s .buckets)) (w .0 .is) (h .lists)));
-  holds = λ k a i l y h j q fits.
-      let t = tables k f e p n a i b sp in
-      let w = at-place t s l h x y j q in
-      let sized = sized-like t (l .capacity) (h .sized) k f' e' p' n' a i b' sp' refl lf (ap (λ u. length u) epochs-are ∙ length-set e x (s .epoch)) lp ln refl refl lb ls in
-      rw (w .1) (subst (λ z. Holds (tables k f' e' p' n' a i b' sp') z (move (there t s l h x (w .0)) (raised cap (w .0 .freq)) l)) (sym after)
-      (hit-holds t s l h x (w .0) cap fits f' p' n' b' sp' o (touches k a i) e' epochs-are low reads sized));
-}
+-- A bound slot moves: a hit or a restart
+
+module _ (f e p n b sp : List ℕ) (s : State) (x : ℕ) (f' p' n' b' sp' : List ℕ) (bk : Buckets) (e' : List ℕ) (low : ℕ) (s' : State)
+    (epochs-are : e' ≡ set e x (s .epoch)) (reads : LowestFrequency b' bk low) (after : s' ≡ recounted s (s .count) low (s .free) bk)
+    (lf : length f' ≡ length f) (lp : length p' ≡ length p) (ln : length n' ≡ length n) (lb : length b' ≡ length b) (ls : length sp' ≡ length sp) where
+  sized-moved : (k a i : List ℕ) (c : ℕ) → Sized (tables k f e p n a i b sp) c → Sized (tables k f' e' p' n' a i b' sp') c
+  sized-moved k a i c z =
+      sized-like (tables k f e p n a i b sp) c z k f' e' p' n' a i b' sp' refl lf (ap (λ u. length u) epochs-are ∙ length-set e x (s .epoch)) lp ln refl refl lb ls
+
+  pub hit-so : (cap : ℕ) (frequency : Frequency) → LevelTouches (tabs f p n b sp) (s .buckets) x cap (tabs f' p' n' b' sp') (record { frequency = frequency; state = bk }) →
+      Hits f e p n b sp s x cap f' e' p' n' b' sp' (record { frequency = frequency; state = s' })
+  hit-so cap frequency touches = record {
+    answer = λ k a i l y h j q.
+        let t = tables k f e p n a i b sp in
+        let w = at-place t s l h x y j q in
+        rw (w .1) (touches .answer (w .0 .us) (w .0 .freq) (w .0 .xs) (w .0 .ys) (w .0 .vs) (held-there t s l h x (w .0)));
+    holds = λ k a i l y h j q fits.
+        let t = tables k f e p n a i b sp in
+        let w = at-place t s l h x y j q in
+        rw (w .1) (subst (λ z. Holds (tables k f' e' p' n' a i b' sp') z (move (there t s l h x (w .0)) (raised cap (w .0 .freq)) l)) (sym after)
+        (hit-holds t s l h x (w .0) f' p' n' b' sp' bk e' epochs-are low reads (sized-moved k a i (l .capacity) (h .sized)) cap fits
+        (touches .holds (w .0 .us) (w .0 .freq) (w .0 .xs) (w .0 .ys) (w .0 .vs) (held-there t s l h x (w .0)))));
+  }
+
+  pub restart-so : LevelRestarts (tabs f p n b sp) (s .buckets) x (tabs f' p' n' b' sp') bk → Restarts f e p n b sp s x f' e' p' n' b' sp' s'
+  restart-so restarts = record {
+    holds = λ k a i l y h j q.
+        let t = tables k f e p n a i b sp in
+        let w = at-place t s l h x y j q in
+        rw (w .1) (subst (λ z. Holds (tables k f' e' p' n' a i b' sp') z (restart (there t s l h x (w .0)) l)) (sym after)
+        (restart-holds t s l h x (w .0) f' p' n' b' sp' bk e' epochs-are low reads (sized-moved k a i (l .capacity) (h .sized))
+        (restarts .holds (w .0 .us) (w .0 .freq) (w .0 .xs) (w .0 .ys) (w .0 .vs) (held-there t s l h x (w .0)))));
+  }
 
 pub gone-so : (t : Tables) (s : State) (x : ℕ) (k' e' i' : List ℕ) (f' p' n' b' sp' : List ℕ) (bk : Buckets) (a' : List ℕ) (o' : Order) (low : ℕ) (s' : State) →
     LeavesIndex (t .keys) (t .epochs) (t .index) x k' e' i' → asks.Unbinds (leveled t) (s .buckets) x (tabs f' p' n' b' sp') bk → arena.Releases (t .arena) (s .free) x a' o' →

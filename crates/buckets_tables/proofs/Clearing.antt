@@ -2,7 +2,7 @@
 -- empty index and all slots free hold a new ledger. Clearing sound tables is making them anew.
 use mathlib.Core.Path.{_≡_, refl, _∙_, subst}
 use mathlib.Core.List.{List, []}
-use Prim.Native.Nat.{ℕ, _+_, _*_, _≤_, _<_, _-_}
+use Prim.Native.Nat.{ℕ, _+_, _*_, _≤_, _<_}
 use native.Mathlib.Omega.{arith}
 use lib.ListN.{length, set, length-set, List·getD-eq-default}
 use lib.Seq.{getD-set-same, getD-set-other}
@@ -93,19 +93,18 @@ module _ (k f e p n a i sp : List ℕ) (c : ℕ) (fits : Fitting k f e p n a i s
       let lim = fits .limit in
       (record { limit = omega arith; prevs-size = omega arith; nexts-size = omega arith }, omega arith)
 
-  pub fitting-arena : (length a ≤ LIMIT) × (0 ≤ length a)
-  fitting-arena = let ca = some-sized .arena-size in let lim = fits .limit in (omega arith, omega arith)
+  pub fitting-arena : length a ≤ LIMIT
+  fitting-arena = let ca = some-sized .arena-size in let lim = fits .limit in omega arith
 
   -- What is made
 
-  pub made : (k' f' e' p' n' a' i' sp' : List ℕ) (o : Order) (bk : Buckets) → Wiped k k' → Wiped e e' → LevelsReset f f' p' n' sp' bk → index.Clears i i' → arena.Filled a 0 a' o →
+  pub made : (k' f' e' p' n' a' i' sp' : List ℕ) (o : Order) (bk : Buckets) → Wiped k k' → Wiped e e' → LevelsReset f f' p' n' sp' bk → index.Clears i i' → arena.Filled a a' o →
       length f' ≡ length f → length p' ≡ length p → length n' ≡ length n → length sp' ≡ length sp →
       Cleared k' f' e' p' n' a' i' sp' c (record { capacity = c; count = 0; lowest = 0; epoch = 0; free = o; buckets = bk })
   made k' f' e' p' n' a' i' sp' o bk no-keys no-epochs no-lists no-index all-free lf lp ln ls b len =
       let z = fits .sized b len in
       let ks : length k' ≡ c = no-keys .size ∙ z .keys-size in
       let is : length i ≡ length k' + length k' = (let q = z .index-size in omega arith) in
-      let whole : length a - 0 ≡ c = (let q = z .arena-size in omega arith) in
       record {
         formed = new-formed c;
         limit = fits .limit;
@@ -118,7 +117,7 @@ module _ (k f e p n a i sp : List ℕ) (c : ℕ) (fits : Fitting k f e p n a i s
         slots = [];
         lists = no-lists .holds b (let q = z .freqs-size in rw q len);
         entries = refl;
-        free = subst (λ (m : ℕ). ArenaHolds a' o (from 0 m)) whole (all-free .holds);
+        free = subst (λ (m : ℕ). ArenaHolds a' o (from 0 m)) (z .arena-size) (all-free .holds);
         zeros = all-any (Blank k' e') (λ x. (no-keys .zero x, no-epochs .zero x)) (from 0 c);
         index-sound = no-index .sound k' (let q = fits .limit in omega arith) is;
         indexed = λ x. (λ has. absurd (no-index .none k' is x has), λ q. absurd (omega arith));

@@ -1,5 +1,5 @@
 -- Where a bound slot stands in the lists, and what the ledger's changes are there: the key that is found at the slot, the lists after
--- it is let go, and the lists after a hit. Carried by the ledger's laws on a known place, since slot and key stand once.
+-- it is let go, after a hit and after a restart. Carried by the ledger's laws on a known place, since slot and key stand once.
 use mathlib.Core.Path.{_≡_, refl, sym, ap, _∙_}
 use mathlib.Core.Logic.{_≢_}
 use mathlib.Core.Option.{some}
@@ -7,21 +7,22 @@ use mathlib.Core.List.{List, [], _∷_, _++_}
 use Prim.Native.Nat.{ℕ, _+_, _≤_, _<_}
 use native.Mathlib.Omega.{arith}
 use native.Mathlib.Decide.{ℕ-discrete}
-use Rattle.numbers.specs.Frequency.{raised}
+use Rattle.numbers.specs.Frequency.{FIRST, raised}
 use Rattle.lists.specs.Lists.{In, Without, one, times}
 use Rattle.lists.proofs.Tests.{one-same}
 use Rattle.lists.proofs.Members.{all-append, all-left, in-split, sum-append, times-in, times-without}
 use Rattle.ledger.specs.Ledger.{Entry, Level, Ledger, Item, item, items, lookup, level, link, unlink, NonEmpty, Rising, slotted}
 use Rattle.ledger.proofs.Items.{in-found}
+use Rattle.ledger.proofs.Rising.{rising-unlink}
 use Rattle.ledger.proofs.Slots.{below-le, no-twins}
-use Rattle.ledger.proofs.Split.{level-of, Below, hitAt, hit-at, unlink-at, rising-full, rising-above, rising-split, in-items, Alone, alone}
+use Rattle.ledger.proofs.Split.{level-of, Below, joined, link-from, hitAt, hit-at, unlink-at, rising-full, rising-above, rising-split, in-items, Alone, alone}
 use Rattle.links.specs.Chain.{cells}
 use Rattle.levels.specs.Levels as levels
-use Rattle.levels.specs.Levels.{members, Nowhere, keep, touched}
+use Rattle.levels.specs.Levels.{members, Nowhere, keep, join, touched}
 use Rattle.buckets_tables.specs.declared.State.{State}
 use Rattle.buckets_tables.specs.Tables.{Tables}
 use Rattle.buckets_tables.specs.Holds.{entryAt, entriesAt, levelsAt, BoundSlot, Holds}
-use Rattle.buckets_tables.proofs.Entries.{SameCells, entries-append, levels-append, levels-at, levels-keep, levels-touched, slotted-members, entries-away, levels-away}
+use Rattle.buckets_tables.proofs.Entries.{SameCells, entries-append, levels-append, levels-at, levels-keep, levels-join, levels-touched, slotted-members, entries-away, levels-away}
 
 -- the place of slot x in lists
 pub record Place (ls : List levels.Level) (x : ℕ) : Type 0 where
@@ -159,7 +160,7 @@ module _ (t : Tables) (s : State) (l : Ledger) (h : Holds t s l) where
         ∙ ap (λ es. lower ++ level (p .freq) es upper) (sym (entries-append (t .keys) (t .epochs) (p .xs) (p .ys)))
 
     module _ (k' e' : List ℕ) (away : (y : ℕ) → y ≢ x → SameCells (t .keys) (t .epochs) k' e' y) where
-      -- what the tables hold after the slot has left the lists, and what after a hit
+      -- what the tables hold after the slot has left the lists, after a restart, and after a hit
       pub released-lists : levelsAt k' e' (p .us ++ keep (p .freq) (p .xs ++ p .ys) (p .vs)) ≡ unlink (cells (t .keys) x) (l .levels)
       released-lists =
           levels-append k' e' (p .us) (keep (p .freq) (p .xs ++ p .ys) (p .vs))
@@ -169,6 +170,15 @@ module _ (t : Tables) (s : State) (l : Ledger) (h : Holds t s l) where
           ++ level (p .freq) (entries-away (t .keys) (t .epochs) k' e' x away (p .xs ++ p .ys) apart-zs i)
           (levels-away (t .keys) (t .epochs) k' e' x away (p .vs) (nowhere x (p .vs) (others .3)) i))
           ∙ sym unlinked
+
+      pub restart-lists :
+          levelsAt k' e' (join x FIRST (p .us ++ keep (p .freq) (p .xs ++ p .ys) (p .vs)))
+          ≡ link FIRST (entryAt k' e' x) (unlink (cells (t .keys) x) (l .levels))
+      restart-lists =
+          let left = unlink (cells (t .keys) x) (l .levels) in
+          levels-join k' e' x FIRST (p .us ++ keep (p .freq) (p .xs ++ p .ys) (p .vs))
+          ∙ ap (joined FIRST (entryAt k' e' x)) released-lists
+          ∙ sym (link-from FIRST (entryAt k' e' x) left (rising-above 0 left (rising-unlink (cells (t .keys) x) 0 (l .levels) (h .formed .rising))))
 
       pub hit-lists : (cap : ℕ) →
           levelsAt k' e' (p .us ++ touched cap x (p .freq) (p .xs ++ p .ys) (p .vs))

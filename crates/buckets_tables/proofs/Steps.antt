@@ -1,4 +1,4 @@
--- What the tables hold after a key is bound, after a hit, and after a key is let go. Each field of `Holds` comes from one part: the
+-- What the tables hold after a key is bound, after a hit or a restart, and after a key is let go. Each field of `Holds` comes from one part: the
 -- lists from the levels, the free order from the arena, the index from the key index, the counts from bound and free slots making up
 -- the capacity, and free slots stay blank since one slot alone is written.
 use mathlib.Core.Path.{_≡_, refl, sym, ap, _∙_, subst}
@@ -7,13 +7,13 @@ use mathlib.Core.Option.{none, some}
 use mathlib.Core.List.{List, [], _∷_, _++_}
 use Prim.Native.Nat.{ℕ, _+_, _≤_, _<_, _-_}
 use native.Mathlib.Omega.{arith}
-use lib.ListN.{length, set, length-set}
+use lib.ListN.{length, set, length-set, length-append}
 use lib.Seq.{lt-length-set, getD-set-same, getD-set-other}
 use Rattle.numbers.specs.Frequency.{FIRST, CEILING, raised}
 use Rattle.lists.specs.Lists.{All, Without, one, times}
 use Rattle.lists.proofs.Tests.{if-eq, one-same, one-other}
-use Rattle.lists.proofs.Members.{in-sum, times-without}
-use Rattle.ledger.specs.Ledger.{Entry, Level, Ledger, Item, item, items, lookup, link, unlink, put, release, move, slotted, WellFormed}
+use Rattle.lists.proofs.Members.{all-append, in-sum, times-without}
+use Rattle.ledger.specs.Ledger.{Entry, Level, Ledger, Item, item, items, lookup, link, unlink, put, release, move, restart, slotted, WellFormed}
 use Rattle.ledger.proofs.Items.{found-none, cut, items-link, items-unlink, sum-place, sum-cut-in}
 use Rattle.ledger.proofs.Slots.{below-le, bound-slot, free-slot, size-and-free}
 use Rattle.ledger.proofs.Changes.{put-formed, release-formed, move-formed, raised-fits, items-move}
@@ -30,14 +30,13 @@ use Rattle.key_index.specs.Index.{IndexSound}
 use Rattle.levels.specs.Levels as levels
 use Rattle.levels.specs.Levels.{join, keep, touched, lowestFrequency}
 use Rattle.levels.specs.Held.{tabs, Held}
-use Rattle.levels.specs.Calls.{Unbinds, LowestFrequency, LevelTouches, LevelBinds}
-use Rattle.levels.specs.declared.Touched.{Touched}
+use Rattle.levels.specs.Calls.{Unbinds, LowestFrequency, LevelBinds}
 use Rattle.buckets_tables.specs.declared.State.{State}
 use Rattle.buckets_tables.specs.Tables.{Tables, tables, leveled, Sized}
-use Rattle.buckets_tables.specs.Holds.{levelsAt, lowestOf, BoundSlot, Blank, Holds}
+use Rattle.buckets_tables.specs.Holds.{entryAt, levelsAt, lowestOf, BoundSlot, Blank, Holds}
 use Rattle.buckets_tables.specs.Calls.{recounted, Vacant, EntersIndex, LeavesIndex}
 use Rattle.buckets_tables.proofs.Entries.{SameCells, levels-join, levels-away, still-blank}
-use Rattle.buckets_tables.proofs.Places.{Place, bound-place, unbound-nowhere, there, in-there, found-there, released-lists, hit-lists}
+use Rattle.buckets_tables.proofs.Places.{Place, bound-place, unbound-nowhere, there, in-there, found-there, released-lists, restart-lists, hit-lists}
 
 -- the lowest frequency is read alike from lists of slots and from the ledger's
 pub lowest-levels : (k e : List ℕ) (ls : List levels.Level) → lowestFrequency ls ≡ lowestOf (levelsAt k e ls)
@@ -170,66 +169,67 @@ module _ (t : Tables) (s : State) (l : Ledger) (h : Holds t s l) where
     not-free : Without x (l .free)
     not-free = times-without x (l .free) (bound-x .1)
 
-    held-there : Held (leveled t) (s .buckets) (p .us ++ levels.level (p .freq) (p .xs ++ x ∷ p .ys) ∷ p .vs)
+    pub held-there : Held (leveled t) (s .buckets) (p .us ++ levels.level (p .freq) (p .xs ++ x ∷ p .ys) ∷ p .vs)
     held-there = subst (Held (leveled t) (s .buckets)) (p .is) (h .lists)
 
-    -- It is hit
+    -- It moves to the head of list `to`, with the current epoch. A hit and a restart are this; they differ in where the slot ends
 
-    module _ (cap : ℕ) (cap-fits : cap ≤ CEILING) (f' p' n' b' sp' : List ℕ) (r : Touched) (touches : LevelTouches (leveled t) (s .buckets) x cap (tabs f' p' n' b' sp') r)
-        (e' : List ℕ) (epochs-are : e' ≡ set (t .epochs) x (s .epoch)) (low : ℕ) (reads : LowestFrequency b' (r .state) low)
+    module _ (f' p' n' b' sp' : List ℕ) (bk : Buckets) (e' : List ℕ) (epochs-are : e' ≡ set (t .epochs) x (s .epoch)) (low : ℕ) (reads : LowestFrequency b' bk low)
         (sized : Sized (tables (t .keys) f' e' p' n' (t .arena) (t .index) b' sp') (l .capacity)) where
-      abbrev slots-hit : List levels.Level
-      slots-hit = p .us ++ touched cap x (p .freq) (p .xs ++ p .ys) (p .vs)
+      stays-moved : (y : ℕ) → y ≢ x → SameCells (t .keys) (t .epochs) (t .keys) e' y
+      stays-moved y d = (refl, rw epochs-are (getD-set-other (t .epochs) x y (s .epoch) 0 d))
 
-      pub hit-answer : r .frequency .0 ≡ raised cap (p .freq)
-      hit-answer = touches .answer (p .us) (p .freq) (p .xs) (p .ys) (p .vs) held-there
-
-      lists-hit : Held (tabs f' p' n' b' sp') (r .state) slots-hit
-      lists-hit = touches .holds (p .us) (p .freq) (p .xs) (p .ys) (p .vs) held-there
-
-      epoch-hit : cells e' x ≡ l .epoch
-      epoch-hit =
+      epoch-moved : cells e' x ≡ l .epoch
+      epoch-moved =
           rw epochs-are (getD-set-same (t .epochs) x (s .epoch) 0 (let a = h .sized .epochs-size in let b = bound-x .0 in omega arith)) ∙ h .epoch
 
-      stays-hit : (y : ℕ) → y ≢ x → SameCells (t .keys) (t .epochs) (t .keys) e' y
-      stays-hit y d = (refl, rw epochs-are (getD-set-other (t .epochs) x y (s .epoch) 0 d))
+      module _ (to : ℕ) (fits : (1 ≤ to) × (to ≤ CEILING)) (slots-moved : List levels.Level) (lists-moved : Held (tabs f' p' n' b' sp') bk slots-moved)
+          (ends : levelsAt (t .keys) e' slots-moved ≡ link to (entryAt (t .keys) e' x) (unlink (cells (t .keys) x) (l .levels))) where
+        entries-moved : move me to l .levels ≡ levelsAt (t .keys) e' slots-moved
+        entries-moved =
+            ap (λ (d : Entry). link to d (unlink (cells (t .keys) x) (l .levels))) (λ i. record { key = cells (t .keys) x; slot = x; epoch = sym epoch-moved i })
+            ∙ sym ends
 
-      entries-hit : move me (raised cap (p .freq)) l .levels ≡ levelsAt (t .keys) e' slots-hit
-      entries-hit =
-          ap (λ (d : Entry). link (raised cap (p .freq)) d (unlink (cells (t .keys) x) (l .levels))) (λ i. record { key = cells (t .keys) x; slot = x; epoch = sym epoch-hit i })
-          ∙ sym (hit-lists t s l h x p (t .keys) e' stays-hit cap)
+        slotted-moved : (y : ℕ) → slotted y (items (move me to l .levels)) ≡ slotted y (items (l .levels))
+        slotted-moved y =
+            let a = ap (slotted y) (items-move me to l (h .formed .rising)) in
+            let b = sum-place (λ z. one (z .slot) y) (item to (record { key = me .key; slot = x; epoch = l .epoch })) (cut (me .key) (items (l .levels))) in
+            let c = sum-cut-in (λ z. one (z .slot) y) (items (l .levels)) me (in-there t s l h x p) (h .formed .keys (me .key)) in
+            omega arith
 
-      slotted-hit : (y : ℕ) → slotted y (items (move me (raised cap (p .freq)) l .levels)) ≡ slotted y (items (l .levels))
-      slotted-hit y =
-          let a = ap (slotted y) (items-move me (raised cap (p .freq)) l (h .formed .rising)) in
-          let b = sum-place (λ z. one (z .slot) y) (item (raised cap (p .freq)) (record { key = me .key; slot = x; epoch = l .epoch })) (cut (me .key) (items (l .levels))) in
-          let c = sum-cut-in (λ z. one (z .slot) y) (items (l .levels)) me (in-there t s l h x p) (h .formed .keys (me .key)) in
-          omega arith
+        move-holds : Holds (tables (t .keys) f' e' p' n' (t .arena) (t .index) b' sp') (recounted s (s .count) low (s .free) bk) (move me to l)
+        move-holds =
+            let formed = move-formed l (h .formed) me to (in-there t s l h x p) (fits .0) (fits .1) in
+            record {
+              formed = formed;
+              limit = h .limit;
+              capacity = h .capacity;
+              sized = sized;
+              count =
+                  let a = size-and-free l (h .formed) in
+                  let b = size-and-free (move me to l) formed in
+                  let d = h .count in
+                  omega arith;
+              lowest = lowest-read f' p' n' b' sp' bk low (t .keys) e' slots-moved _ reads lists-moved entries-moved;
+              epoch = h .epoch;
+              slots = slots-moved;
+              lists = lists-moved;
+              entries = entries-moved;
+              free = h .free;
+              zeros = still-blank (t .keys) (t .epochs) (t .keys) e' x stays-moved (l .free) not-free (h .zeros);
+              index-sound = h .index-sound;
+              indexed = λ y. let q = slotted-moved y in let o = h .indexed y in (λ has. let b = o .0 has in omega arith, λ b. o .1 (omega arith));
+            }
 
-      pub hit-holds : Holds (tables (t .keys) f' e' p' n' (t .arena) (t .index) b' sp') (recounted s (s .count) low (s .free) (r .state)) (move me (raised cap (p .freq)) l)
-      hit-holds =
-          let fits = raised-fits l (h .formed) cap me (in-there t s l h x p) cap-fits in
-          let formed = move-formed l (h .formed) me (raised cap (p .freq)) (in-there t s l h x p) (fits .0) (fits .1) in
-          record {
-            formed = formed;
-            limit = h .limit;
-            capacity = h .capacity;
-            sized = sized;
-            count =
-                let a = size-and-free l (h .formed) in
-                let b = size-and-free (move me (raised cap (p .freq)) l) formed in
-                let d = h .count in
-                omega arith;
-            lowest = lowest-read f' p' n' b' sp' (r .state) low (t .keys) e' slots-hit _ reads lists-hit entries-hit;
-            epoch = h .epoch;
-            slots = slots-hit;
-            lists = lists-hit;
-            entries = entries-hit;
-            free = h .free;
-            zeros = still-blank (t .keys) (t .epochs) (t .keys) e' x stays-hit (l .free) not-free (h .zeros);
-            index-sound = h .index-sound;
-            indexed = λ y. let q = slotted-hit y in let o = h .indexed y in (λ has. let b = o .0 has in omega arith, λ b. o .1 (omega arith));
-          }
+      pub hit-holds : (cap : ℕ) → cap ≤ CEILING → Held (tabs f' p' n' b' sp') bk (p .us ++ touched cap x (p .freq) (p .xs ++ p .ys) (p .vs)) →
+          Holds (tables (t .keys) f' e' p' n' (t .arena) (t .index) b' sp') (recounted s (s .count) low (s .free) bk) (move me (raised cap (p .freq)) l)
+      hit-holds cap cap-fits lists =
+          move-holds (raised cap (p .freq)) (raised-fits l (h .formed) cap me (in-there t s l h x p) cap-fits) _ lists
+          (hit-lists t s l h x p (t .keys) e' stays-moved cap)
+
+      pub restart-holds : Held (tabs f' p' n' b' sp') bk (join x FIRST (p .us ++ keep (p .freq) (p .xs ++ p .ys) (p .vs))) →
+          Holds (tables (t .keys) f' e' p' n' (t .arena) (t .index) b' sp') (recounted s (s .count) low (s .free) bk) (restart me l)
+      restart-holds lists = move-holds FIRST (omega arith, omega arith) _ lists (restart-lists t s l h x p (t .keys) e' stays-moved)
 
     -- It is let go
 
@@ -295,14 +295,15 @@ module _ (t : Tables) (s : State) (l : Ledger) (h : Holds t s l) where
                 let a = size-and-free l (h .formed) in
                 let b = size-and-free (release me l) formed in
                 let d = h .count in
-                omega arith;
+                omega (arith, length-append (l .free) (x ∷ []));
             lowest = lowest-read f' p' n' b' sp' bk low k' e' slots-left _ reads lists-left entries-left;
             epoch = h .epoch;
             slots = slots-left;
             lists = lists-left;
             entries = entries-left;
             free = releases .holds (l .free) (h .free) (in-use-exact (t .arena) (s .free) (l .free) (h .free) x .1 (let a = h .sized .arena-size in let b = bound-x .0 in omega arith, not-free));
-            zeros = (blank-left, still-blank (t .keys) (t .epochs) k' e' x stays-left (l .free) not-free (h .zeros));
+            zeros =
+                all-append (Blank k' e') (l .free) (x ∷ []) (still-blank (t .keys) (t .epochs) k' e' x stays-left (l .free) not-free (h .zeros)) (blank-left, tt);
             index-sound =
                 sound-frame i' (t .keys) k' keys-left (leaves .index-is .sound has-x) (λ y w. stays-left y (leaves .index-is .has has-x y .0 w .1) .0);
             indexed = λ y.

@@ -7,7 +7,7 @@ use lib.ListN.{length, set}
 use Rattle.numbers.specs.Marks.{LIMIT}
 use Rattle.numbers.specs.Frequency.{CEILING, raised}
 use Rattle.lists.specs.Lists.{In}
-use Rattle.ledger.specs.Ledger.{Ledger, Item, new, items, lookup, put, release, move}
+use Rattle.ledger.specs.Ledger.{Ledger, Item, new, items, lookup, put, release, move, restart}
 use Rattle.links.specs.Chain.{cells}
 use Rattle.slot_arena.specs.declared.Order.{Order}
 use Rattle.bucket_table.specs.declared.Buckets.{Buckets}
@@ -64,6 +64,11 @@ pub record Hits (f e p n b sp : List ℕ) (s : State) (x cap : ℕ) (f' e' p' n'
       r .frequency .0 ≡ raised cap (y .frequency)
   pub holds : (k a i : List ℕ) (l : Ledger) (y : Item) → Holds (tables k f e p n a i b sp) s l → In y (items (l .levels)) → y .slot ≡ x → cap ≤ CEILING →
       Holds (tables k f' e' p' n' a i b' sp') (r .state) (move y (raised cap (y .frequency)) l)
+
+-- the item in slot x starts again
+pub record Restarts (f e p n b sp : List ℕ) (s : State) (x : ℕ) (f' e' p' n' b' sp' : List ℕ) (s' : State) : Type 0 where
+  pub holds : (k a i : List ℕ) (l : Ledger) (y : Item) → Holds (tables k f e p n a i b sp) s l → In y (items (l .levels)) → y .slot ≡ x →
+      Holds (tables k f' e' p' n' a i b' sp') s' (restart y l)
 
 -- the item in slot x is let go
 pub record LetsGo (t : Tables) (s : State) (x : ℕ) (t' : Tables) (s' : State) : Type 0 where

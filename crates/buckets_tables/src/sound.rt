@@ -4,7 +4,7 @@ ghost use Prim.Native.Nat.{_<_};
 ghost use lib.ListN.{length};
 ghost use Rattle.key_index.specs.Index.{IndexSound};
 ghost use Rattle.buckets_tables.specs.Slices.{lent, before, after};
-ghost use Rattle.buckets_tables.specs.Calls.{Room, Binds, Hits, BoundIn, LetsGo, Vacant, Hittable, EntersIndex, LeavesIndex, Wiped, Fitting, Cleared};
+ghost use Rattle.buckets_tables.specs.Calls.{Room, Binds, Hits, Restarts, BoundIn, LetsGo, Vacant, Hittable, EntersIndex, LeavesIndex, Wiped, Fitting, Cleared};
 use crate::Hit;
 use crate::Placed;
 use crate::State;
@@ -116,7 +116,30 @@ pub fn hit(
     }
 }
 
-// Lets go the key in a bound slot; the slot goes to the front of the free order.
+// The key in a bound slot starts again: at the first frequency, with the current epoch.
+pub fn restart(
+    freqs: &mut [u64],
+    epochs: &mut [u64],
+    prevs: &mut [u64],
+    nexts: &mut [u64],
+    buckets: &mut [u64],
+    spares: &mut [u64],
+    state: State,
+    slot: Slot,
+) -> State
+    requires { ⌜ Hittable (now freqs) (now epochs) (now prevs) (now nexts) (now buckets) (now spares) state (slot .0) ⌝ }
+    ensures { λ r. ⌜ Restarts
+        (now (freqs .entry)) (now (epochs .entry)) (now (prevs .entry)) (now (nexts .entry)) (now (buckets .entry)) (now (spares .entry)) state (slot .0)
+        (now (freqs .exit)) (now (epochs .exit)) (now (prevs .exit)) (now (nexts .exit)) (now (buckets .exit)) (now (spares .exit)) r ⌝ }
+{
+    let records = levels::sound::restart(freqs, prevs, nexts, buckets, spares, state.buckets, slot);
+    let s = slot.0 as usize;
+    epochs[s] = state.epoch;
+    let lowest = levels::sound::lowest_frequency(&buckets[..], records);
+    state.recounted(state.count, lowest, state.free, records)
+}
+
+// Lets go the key in a bound slot; the slot joins the free order at the back.
 pub fn let_go(
     keys: &mut [u64],
     freqs: &mut [u64],
@@ -173,7 +196,7 @@ pub fn make(
     wipe(epochs);
     let buckets = levels::sound::reset(freqs, prevs, nexts, spares);
     key_index::clear(index);
-    let free = slot_arena::sound::fill(arena, 0);
+    let free = slot_arena::sound::fill(arena);
     State {
         capacity: capacity,
         count: 0,

@@ -9,9 +9,10 @@ use Rattle.ledger.specs.History.{Get, Reset}
 use Rattle.ledger.specs.CacheCalls.{CacheOutcome, cacheCalls}
 use Rattle.promise.specs.Promise.{Does, Tells, Sound}
 use Rattle.buckets_tables.specs.declared.State.{State}
-use Rattle.buckets_tables.specs.Tables.{Tables, tables}
+use Rattle.buckets_tables.specs.Tables.{tables}
+use Rattle.answers.specs.declared.Leveled.{Leveled}
 use Rattle.answers.specs.declared.Valued.{Valued}
-use Rattle.answers.specs.Replies.{valueReply}
+use Rattle.answers.specs.Replies.{levelReply, valueReply}
 use Rattle.buckets_calls.specs.Calls as eight
 use Rattle.cache_tables.specs.Tables.{CacheTables, withValues}
 use Rattle.cache_tables.specs.Lent.{cache}
@@ -47,6 +48,8 @@ abbrev pub Gets : (key : ℕ) → (keys freqs epochs prevs nexts index buckets s
 Gets key k f e p n i b sp vs s r =
     (a : List ℕ) → Does cache (cacheCalls (Get key)) (before a k f e p n i b sp vs) s (valueReply (r .answer)) (after a k f e p n i b sp vs) (r .state)
 
--- a reset, whatever the values
-abbrev pub Resets : (key : ℕ) → Tables → State → Reply → Tables → State → Type 0
-Resets key t s r t' s' = (vs : List ℕ) → Does cache (cacheCalls (Reset key)) (withValues t vs) s r (withValues t' vs) s'
+-- a reset, whatever the arena and the values
+abbrev pub Resets : (key : ℕ) → (keys freqs epochs prevs nexts index buckets spares : Slice) → State → Leveled → Type 0
+Resets key k f e p n i b sp s r =
+    (a vs : List ℕ) →
+    Does cache (cacheCalls (Reset key)) (withValues (eight.before a k f e p n i b sp) vs) s (levelReply (r .answer)) (withValues (eight.after a k f e p n i b sp) vs) (r .state)

@@ -2,9 +2,8 @@
 ghost use Rattle.ledger.specs.History.{Remove, Evict};
 ghost use Rattle.ledger.specs.CacheCalls.{cacheCalls};
 ghost use Rattle.promise.specs.Promise.{Sound, Does};
-ghost use Rattle.buckets_tables.specs.Slices as nine;
-ghost use Rattle.buckets_tables.specs.Lent as kind;
-ghost use Rattle.answers.specs.Replies.{levelReply, valueReply, leastUsedReply};
+ghost use Rattle.answers.specs.Replies.{valueReply, leastUsedReply};
+ghost use Rattle.buckets_calls.specs.Calls.{Touchable};
 ghost use Rattle.cache_tables.specs.Slices.{lent, before, after};
 ghost use Rattle.cache_tables.specs.Lent.{cache};
 ghost use Rattle.cache_calls.specs.Calls.{Gettable, Gets, Resets};
@@ -165,41 +164,34 @@ pub fn evict_min_freq(
     }
 }
 
-// Lets go a bound key and binds it again, at frequency 1 in the slot let go; the answer is its frequency before. Its value stays.
+// A bound key starts again, at the first frequency; the answer is its frequency before. Its slot and its value stay.
 pub fn reset_frequency(
-    keys: &mut [u64],
+    keys: &[u64],
     freqs: &mut [u64],
     epochs: &mut [u64],
     prevs: &mut [u64],
     nexts: &mut [u64],
-    arena: &mut [u64],
-    index: &mut [u64],
+    index: &[u64],
     buckets: &mut [u64],
     spares: &mut [u64],
     state: State,
     key: Key,
 ) -> Leveled
-    requires { ⌜ Sound kind.buckets (nine.lent keys freqs epochs prevs nexts arena index buckets spares) state ⌝ }
-    ensures { λ r. ⌜ Resets (key .0)
-        (nine.before keys freqs epochs prevs nexts arena index buckets spares) state (levelReply (r .answer))
-        (nine.after keys freqs epochs prevs nexts arena index buckets spares) (r .state) ⌝ }
+    requires { ⌜ Touchable keys freqs epochs prevs nexts index buckets spares state ⌝ }
+    ensures { λ r. ⌜ Resets (key .0) keys freqs epochs prevs nexts index buckets spares state r ⌝ }
 {
-    match key_index::sound::find(&index[..], &keys[..], key) {
+    match key_index::sound::find(index, keys, key) {
         Found::At(slot) => {
             let frequency = Frequency(freqs[slot.0 as usize]);
-            let after = cache_tables::sound::replace(
-                keys,
+            let after = buckets_tables::sound::restart(
                 freqs,
                 epochs,
                 prevs,
                 nexts,
-                arena,
-                index,
                 buckets,
                 spares,
                 state,
                 slot,
-                key,
             );
             Leveled {
                 answer: Level::At(frequency),

@@ -1,6 +1,6 @@
 -- What the calls of the cache ask of the steps below: that a slot lies in the table of values, that a slot is bound, that a key may
 -- take the slot of another, and that there is a free one for it.
-use mathlib.Core.Path.{ap, _∙_}
+use mathlib.Core.Path.{_≡_, ap, _∙_}
 use mathlib.Core.Logic.{_≢_}
 use mathlib.Core.Option.{Option}
 use mathlib.Core.List.{List}
@@ -12,7 +12,6 @@ use Rattle.lists.specs.Lists.{one}
 use Rattle.lists.proofs.Tests.{one-same}
 use Rattle.lists.proofs.Members.{in-sum}
 use Rattle.ledger.specs.Ledger.{Ledger, Item, items, lookup}
-use Rattle.ledger.proofs.Items.{found-in}
 use Rattle.promise.specs.Promise.{Sound}
 use Rattle.buckets_tables.specs.declared.State.{State}
 use Rattle.buckets_tables.specs.Tables.{Tables}
@@ -21,7 +20,8 @@ use Rattle.buckets_tables.proofs.Doing.{free-some}
 use Rattle.buckets_tables.specs.Lent.{buckets}
 use Rattle.cache_tables.specs.Tables.{CacheTables, withValues}
 use Rattle.cache_tables.specs.Steps.{Replaceable}
-use Rattle.cache_tables.proofs.Caching.{Sought, Missed, least-item, left-absent, still-absent}
+use Rattle.cache_tables.proofs.Caching.{Sought, Missed, least-item}
+use Rattle.cache_tables.proofs.Inserting.{none-free}
 use Rattle.cache_tables.specs.Lent.{cache}
 
 pub base-sound : (t : CacheTables) (s : State) → Sound cache t s → Sound buckets (t .base) s
@@ -45,32 +45,20 @@ module _ (find : Ledger → Option Item) (t : Tables) (s : State) (x : ℕ) (sou
         bound = let c = in-sum (λ (z : Item). one (z .slot) x) (items (w .0 .levels)) (y .0) (y .2 .inside) in omega (arith, one-same (y .0 .slot) x (y .2 .slot));
       }
 
-module _ (t : Tables) (s : State) (x key : ℕ) (w : Sound buckets t s) where
-  -- by the key that stands there
-  pub again-replaceable : Sought (lookup key) t s x → Replaceable t s x key
-  again-replaceable sought =
-      let y = sought (w .0) (w .1) in
-      record {
-        ledger = w .0;
-        holds = w .1;
-        guest = y .0;
-        inside = y .2 .inside;
-        slot = y .2 .slot;
-        absent = left-absent (w .0) (w .1 .formed) key (y .0) (y .2 .inside) (found-in key (items (w .0 .levels)) (y .0) (y .1) .1);
-      }
-
-  -- by a key that is not bound
-  pub out-replaceable : Missed (lookup key) t s → Sought least-item t s x → Replaceable t s x key
-  out-replaceable missed sought =
-      let y = sought (w .0) (w .1) in
-      record {
-        ledger = w .0;
-        holds = w .1;
-        guest = y .0;
-        inside = y .2 .inside;
-        slot = y .2 .slot;
-        absent = still-absent (w .0) (w .1 .formed) key (y .0) (y .2 .inside) (missed (w .0) (w .1));
-      }
+-- where no slot is free, a key that is not bound may take the slot of the least
+pub out-replaceable : (t : Tables) (s : State) (x key : ℕ) → Sound buckets t s → Missed (lookup key) t s → s .free .first ≡ NONE → Sought least-item t s x →
+    Replaceable t s x key
+out-replaceable t s x key w missed full sought =
+    let y = sought (w .0) (w .1) in
+    record {
+      ledger = w .0;
+      holds = w .1;
+      guest = y .0;
+      inside = y .2 .inside;
+      slot = y .2 .slot;
+      full = none-free t s (w .0) (w .1) full;
+      absent = missed (w .0) (w .1);
+    }
 
 -- there is a free slot for a key that is not bound
 pub new-room : (t : Tables) (s : State) (key : ℕ) → Sound buckets t s → Missed (lookup key) t s → s .free .first ≢ NONE → Room t s key

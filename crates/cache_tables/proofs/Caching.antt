@@ -1,49 +1,35 @@
 -- Each call of the cache that finds or misses a key, or takes the least, does what the cache's function does: by where the item
 -- stands, and by what the buckets' steps promise of its slot.
-use mathlib.Core.Path.{_≡_, sym, ap, _∙_, subst}
+use mathlib.Core.Path.{_≡_, sym, ap, _∙_}
 use mathlib.Core.Option.{Option, none, some}
 use mathlib.Core.List.{List, [], _∷_}
 use mathlib.Core.Logic.{_≢_}
 use Prim.Native.Nat.{ℕ}
 use lib.ListN.{getD, set}
-use lib.Seq.{set-set, set-getD}
 use Rattle.numbers.specs.Marks.{NONE}
 use Rattle.numbers.specs.Frequency.{CEILING}
 use Rattle.numbers.specs.declared.Answer.the-variants.{Absent, Empty}
 use Rattle.numbers.specs.declared.Slot.{Slot}
-use Rattle.lists.specs.Lists.{In}
-use Rattle.ledger.specs.Ledger.{Ledger, Item, items, lookup, lowest, put, release, WellFormed}
+use Rattle.ledger.specs.Ledger.{Ledger, Item, lookup, lowest}
 use Rattle.ledger.specs.Buckets.{done, refused, touch}
 use Rattle.ledger.specs.Cache.{cacheGet, cachePeek, cacheRemove, cacheReset, cachePeekLfu, cacheEvict}
 use Rattle.ledger.specs.History.{Get, Peek, Remove, Reset, PeekLfu, Evict, does}
 use Rattle.ledger.specs.CacheCalls.{cacheCalls}
-use Rattle.ledger.proofs.Changes.{fresh-again, fresh-after, release-formed}
-use Rattle.ledger.proofs.Items.{found-in}
-use Rattle.ledger.proofs.Refusals.{unbound-of, of-unbound}
 use Rattle.promise.specs.Promise.{Does, Tells}
 use Rattle.links.specs.Chain.{cells}
 use Rattle.key_index.specs.Index as index
 use Rattle.key_index.specs.declared.Found.the-variants.{At, Nothing}
 use Rattle.levels.specs.Levels as levels
 use Rattle.buckets_tables.specs.declared.State.{State}
-use Rattle.buckets_tables.specs.Tables.{Tables}
+use Rattle.buckets_tables.specs.Tables.{Tables, tables}
 use Rattle.buckets_tables.specs.Holds.{Holds}
-use Rattle.buckets_tables.specs.Calls.{LetsGo}
+use Rattle.buckets_tables.specs.Calls.{Restarts, LetsGo}
 use Rattle.buckets_tables.proofs.Found.{Stands, found-at, found-nothing, lowest-nothing}
 use Rattle.buckets_tables.proofs.Doing.{least, stands-x}
 use Rattle.buckets_tables.specs.Lent.{buckets}
 use Rattle.cache_tables.specs.Tables.{withValues}
 use Rattle.cache_tables.specs.Lent.{cache}
-use Rattle.cache_tables.specs.Steps.{Replaces}
 use Rattle.cache_tables.proofs.Cached.{value-at, stored-at, cache-refuse, cache-done, cache-tell}
-
--- an item's own key is absent once it is let go
-pub left-absent : (l : Ledger) → WellFormed l → (key : ℕ) (y : Item) → In y (items (l .levels)) → y .key ≡ key → lookup key (release y l) ≡ none
-left-absent l w key y i e = rw (← e) (of-unbound (release y l) (release-formed l w y i) (y .key) (fresh-again y l))
-
--- an absent key stays absent when another item is let go
-pub still-absent : (l : Ledger) → WellFormed l → (key : ℕ) (y : Item) → In y (items (l .levels)) → lookup key l ≡ none → lookup key (release y l) ≡ none
-still-absent l w key y i e = of-unbound (release y l) (release-formed l w y i) key (fresh-after key y l (unbound-of l w key e))
 
 -- Where the sought item stands: in every ledger that the tables hold it is found, and stands in slot x; or it is found in none
 abbrev pub Sought : (Ledger → Option Item) → Tables → State → ℕ → Type 0
@@ -99,20 +85,18 @@ module _ (t : Tables) (vs : List ℕ) (s : State) where
           stored-at vs x 0 c (w .0) (h .values) (w .2 .slot),
         ))
 
-    -- the value is kept: it is the one that is bound again
-    pub reset-hit : (t' : Tables) (s' : State) → Replaces t s x key t' s' →
-        Does cache (cacheCalls (Reset key)) (withValues t vs) s (done (cells (t .freqs) x ∷ [])) (withValues t' vs) s'
+    -- keys, arena, index and values are kept
+    pub reset-hit : (f' e' p' n' b' sp' : List ℕ) (s' : State) → Restarts (t .freqs) (t .epochs) (t .prevs) (t .nexts) (t .buckets) (t .spares) s x f' e' p' n' b' sp' s' →
+        Does cache (cacheCalls (Reset key)) (withValues t vs) s (done (cells (t .freqs) x ∷ [])) (withValues (tables (t .keys) f' e' p' n' (t .arena) (t .index) b' sp') vs) s'
     unfolding does cacheReset
-    reset-hit t' s' replaces =
-        cache-done (Reset key) t vs s (cells (t .freqs) x ∷ []) t' vs s'
+    reset-hit f' e' p' n' b' sp' s' restarts =
+        cache-done (Reset key) t vs s (cells (t .freqs) x ∷ []) (tables (t .keys) f' e' p' n' (t .arena) (t .index) b' sp') vs s'
         (λ c h.
         let w = sought (c .table) (h .table) in
-        let k = found-in key (items (c .table .levels)) (w .0) (w .1) .1 in
         rw (w .1) (
           λ i. done (w .2 .frequency i ∷ []),
-          subst (λ (j : ℕ). Holds t' s' (put j (w .0 .slot) (c .table .free) (release (w .0) (c .table)))) (sym k)
-              (replaces .holds (c .table) (w .0) (h .table) (w .2 .inside) (w .2 .slot) (left-absent (c .table) (h .table .formed) key (w .0) (w .2 .inside) k)),
-          h .values ∙ sym (set-set (c .values) (w .0 .slot) 0 (getD (c .values) (w .0 .slot) 0) ∙ set-getD (c .values) (w .0 .slot) 0),
+          restarts .holds (t .keys) (t .arena) (t .index) (c .table) (w .0) (h .table) (w .2 .inside) (w .2 .slot),
+          h .values,
         ))
 
   -- A key that is not bound

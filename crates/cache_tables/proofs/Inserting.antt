@@ -9,7 +9,7 @@ use lib.ListN.{length, getD, set}
 use lib.Seq.{set-set, set-out}
 use Rattle.numbers.specs.Marks.{NONE}
 use Rattle.numbers.specs.declared.Answer.the-variants.{Full}
-use Rattle.ledger.specs.Ledger.{Ledger, lookup, put, release}
+use Rattle.ledger.specs.Ledger.{Ledger, lookup}
 use Rattle.ledger.specs.Buckets.{done, refused}
 use Rattle.ledger.specs.Cache.{cacheInsert}
 use Rattle.ledger.specs.History.{Insert, does}
@@ -27,10 +27,10 @@ use Rattle.cache_tables.specs.Tables.{withValues}
 use Rattle.cache_tables.specs.Lent.{cache}
 use Rattle.cache_tables.specs.Steps.{Replaces}
 use Rattle.cache_tables.proofs.Cached.{value-at, stored-at, cache-refuse, cache-done}
-use Rattle.cache_tables.proofs.Caching.{Sought, Missed, least-item, still-absent}
+use Rattle.cache_tables.proofs.Caching.{Sought, Missed, least-item}
 
 -- no slot is free where the order begins with NONE
-none-free : (t : Tables) (s : State) (l : Ledger) → Holds t s l → s .free .first ≡ NONE → l .free ≡ []
+pub none-free : (t : Tables) (s : State) (l : Ledger) → Holds t s l → s .free .first ≡ NONE → l .free ≡ []
 none-free t s l h e = first-none (t .arena) (s .free) (l .free) (h .free) .1 e
 
 module _ (t : Tables) (vs : List ℕ) (s : State) (key v : ℕ) where
@@ -86,9 +86,9 @@ module _ (t : Tables) (vs : List ℕ) (s : State) (key v : ℕ) where
           let e = missed (c .table) (h .table) in
           let f = none-free t s (c .table) (h .table) full in
           let w = sought (c .table) (h .table) in
-          let k = replaces .holds (c .table) (w .0) (h .table) (w .2 .inside) (w .2 .slot) (still-absent (c .table) (h .table .formed) key (w .0) (w .2 .inside) e) in
+          let k = replaces .holds (c .table) (w .0) (h .table) (w .2 .inside) (w .2 .slot) f e in
           rw (e, f, w .1) (
             λ i. done (1 ∷ w .2 .key i ∷ []),
-            subst (λ (fr : List ℕ). Holds t' s' (put key (w .0 .slot) fr (release (w .0) (c .table)))) f k,
+            k,
             stored-at vs x v c (w .0) (h .values) (w .2 .slot) ∙ sym (set-set (c .values) (w .0 .slot) 0 v),
           ))

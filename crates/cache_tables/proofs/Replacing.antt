@@ -1,12 +1,16 @@
--- A key takes the slot of another: after the slot is let go it is the first of the free order, so that binding takes it.
-use mathlib.Core.Path.{_≡_, sym, subst}
-use mathlib.Core.List.{_∷_}
+-- A key takes the slot of another where none is free: the slot that is let go is the only free one then, so that binding takes it.
+use mathlib.Core.Path.{_≡_, sym, ap, _∙_, subst}
+use mathlib.Core.Option.{none}
+use mathlib.Core.List.{List, [], _∷_, _++_}
 use Prim.Native.Nat.{ℕ}
 use native.Mathlib.Omega.{arith}
-use Rattle.lists.specs.Lists.{one}
+use Rattle.lists.specs.Lists.{In, one}
 use Rattle.lists.proofs.Tests.{one-same}
 use Rattle.lists.proofs.Members.{in-sum}
-use Rattle.ledger.specs.Ledger.{Ledger, Item, items, put, release}
+use Rattle.ledger.specs.Ledger.{Ledger, Item, items, lookup, put, release, WellFormed}
+use Rattle.ledger.proofs.Changes.{fresh-after, release-formed}
+use Rattle.ledger.proofs.Refusals.{unbound-of, of-unbound}
+use Rattle.slot_arena.specs.Arena.{ArenaHolds}
 use Rattle.slot_arena.proofs.Free.{first-slot}
 use Rattle.buckets_tables.specs.declared.State.{State}
 use Rattle.buckets_tables.specs.declared.Placed.{Placed}
@@ -15,9 +19,18 @@ use Rattle.buckets_tables.specs.Holds.{Holds}
 use Rattle.buckets_tables.specs.Calls.{Room, Binds, BoundIn, LetsGo}
 use Rattle.cache_tables.specs.Steps.{Replaceable, Replaces}
 
--- the slot let go is first
-first-left : (t : Tables) (s : State) (l : Ledger) (y : Item) → Holds t s (release y l) → s .free .first ≡ y .slot
-first-left t s l y h = first-slot (t .arena) (s .free) (y .slot) (l .free) (h .free) .0
+-- an absent key stays absent when an item is let go
+still-absent : (l : Ledger) → WellFormed l → (key : ℕ) (y : Item) → In y (items (l .levels)) → lookup key l ≡ none → lookup key (release y l) ≡ none
+still-absent l w key y i e = of-unbound (release y l) (release-formed l w y i) key (fresh-after key y l (unbound-of l w key e))
+
+module _ (t : Tables) (s : State) (l : Ledger) (y : Item) (full : l .free ≡ []) (h : Holds t s (release y l)) where
+  -- the slot let go is first, and there is no other
+  first-left : s .free .first ≡ y .slot
+  first-left =
+      first-slot (t .arena) (s .free) (y .slot) [] (subst (λ (free : List ℕ). ArenaHolds (t .arena) (s .free) (free ++ y .slot ∷ [])) full (h .free)) .0
+
+  only-left : release y l .free ≡ s .free .first ∷ []
+  only-left = ap (λ (free : List ℕ). free ++ y .slot ∷ []) full ∙ (λ i. sym first-left i ∷ [])
 
 module _ (t : Tables) (s : State) (x key : ℕ) where
   pub replace-bound : Replaceable t s x key → BoundIn t s x
@@ -33,17 +46,16 @@ module _ (t : Tables) (s : State) (x key : ℕ) where
         let h = gone .holds (r .ledger) (r .guest) (r .holds) (r .inside) (r .slot) in
         record {
           ledger = release (r .guest) (r .ledger);
-          rest = r .ledger .free;
+          rest = [];
           holds = h;
-          absent = r .absent;
-          free-is = λ i. sym (first-left t₁ s₁ (r .ledger) (r .guest) h) i ∷ r .ledger .free;
+          absent = still-absent (r .ledger) (r .holds .formed) key (r .guest) (r .inside) (r .absent);
+          free-is = only-left t₁ s₁ (r .ledger) (r .guest) (r .full) h;
         }
 
     pub replaced : (t₂ : Tables) (p : Placed) → Binds t₁ s₁ key t₂ p → Replaces t s x key t₂ (p .state)
     replaced t₂ p binds = record {
-      holds = λ l y h i e absent.
+      holds = λ l y h i e full absent.
           let k = gone .holds l y h i e in
-          let q = first-left t₁ s₁ l y k in
-          subst (λ z. Holds t₂ (p .state) (put key z (l .free) (release y l))) q
-          (binds .holds (release y l) (l .free) k absent (λ j. sym q j ∷ l .free));
+          subst (λ z. Holds t₂ (p .state) (put key z [] (release y l))) (first-left t₁ s₁ l y full k)
+          (binds .holds (release y l) [] k (still-absent l (h .formed) key y i absent) (only-left t₁ s₁ l y full k));
     }

@@ -5,7 +5,7 @@ use buckets_tables::State;
 use numbers::Key;
 use numbers::Slot;
 
-// Lets go the key in a bound slot, and binds another key there, at frequency 1.
+// Lets go the key in a bound slot where no slot is free, and binds another key there, at frequency 1.
 pub fn replace(
     keys: &mut [u64],
     freqs: &mut [u64],

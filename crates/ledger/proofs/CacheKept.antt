@@ -9,15 +9,16 @@ use native.Mathlib.Omega.{arith}
 use lib.ListN.{getD, set, replicate, length-set, length-replicate}
 use lib.Seq.{getD-set-same, getD-set-other}
 use Rattle.numbers.specs.Frequency.{CEILING, raised}
-use Rattle.lists.specs.Lists.{In, times}
+use Rattle.lists.specs.Lists.{In, one, times}
 use Rattle.lists.proofs.Tests.{if-eq, one-other}
+use Rattle.lists.proofs.Members.{sum-append}
 use Rattle.ledger.specs.Ledger.{Item, items, lookup, ifFound, lowest, keyed}
-use Rattle.ledger.specs.Cache.{Cache, newCache, CacheFormed, Lookup, miss, Least, valueOf, bind, unbind, moved, insertFull, insertNew, insertAt, cacheInsert, cacheGet, cachePeek, cacheRemove, cacheReset, cachePeekLfu, cacheEvict, cacheClear}
+use Rattle.ledger.specs.Cache.{Cache, newCache, CacheFormed, Lookup, miss, Least, bind, unbind, moved, restarted, insertFull, insertNew, insertAt, cacheInsert, cacheGet, cachePeek, cacheRemove, cacheReset, cachePeekLfu, cacheEvict, cacheClear}
 use Rattle.ledger.specs.History.{CacheCall, Insert, Get, Peek, Remove, Reset, PeekLfu, Evict, Clear, Len, does, afterAll}
 use Rattle.ledger.proofs.Items.{found-in, found-none}
 use Rattle.ledger.proofs.Rising.{lowest-in}
 use Rattle.ledger.proofs.Slots.{bound-slot, free-slot}
-use Rattle.ledger.proofs.Changes.{new-formed, put-formed, release-formed, move-formed, raised-fits, fresh-after, fresh-again}
+use Rattle.ledger.proofs.Changes.{new-formed, put-formed, release-formed, move-formed, restart-formed, raised-fits, fresh-after}
 use Rattle.ledger.proofs.Kept.{by-found}
 
 -- The changes keep a cache well formed
@@ -46,19 +47,23 @@ module _ (c : Cache) (w : CacheFormed c) where
   unbind-formed x i = record {
     table = release-formed (c .table) (w .table) x i;
     fits = length-set (c .values) (x .slot) 0 ∙ w .fits;
-    zeros = λ t.
+    zeros = λ t e.
+        let more : one (x .slot) t + times t (c .table .free) ≡ 1 = omega (arith, sum-append (λ s. one s t) (c .table .free) (x .slot ∷ [])) in
         if-eq (λ z. z + times t (c .table .free) ≡ 1 → getD (set (c .values) (x .slot) 0) t 0 ≡ 0) (x .slot) t
         (λ q h.
         let b = bound-slot (c .table) (w .table) x i .0 in
         let f = w .fits in
         rw (← q) (getD-set-same (c .values) (x .slot) 0 0 (omega arith)))
-        (λ d h. getD-set-other (c .values) (x .slot) t 0 0 (λ q. d (sym q)) ∙ w .zeros t (omega arith));
+        (λ d h. getD-set-other (c .values) (x .slot) t 0 0 (λ q. d (sym q)) ∙ w .zeros t (omega arith)) more;
   }
 
   pub moved-formed : (x : Item) → In x (items (c .table .levels)) → CacheFormed (moved x (raised CEILING (x .frequency)) c)
   moved-formed x i =
       let r = raised-fits (c .table) (w .table) CEILING x i (omega arith) in
       record { table = move-formed (c .table) (w .table) x (raised CEILING (x .frequency)) i (r .0) (r .1); fits = w .fits; zeros = w .zeros }
+
+  pub restarted-formed : (x : Item) → In x (items (c .table .levels)) → CacheFormed (restarted x c)
+  restarted-formed x i = record { table = restart-formed (c .table) (w .table) x i; fits = w .fits; zeros = w .zeros }
 
   pub stored-formed : (x : Item) (v : ℕ) → In x (items (c .table .levels)) → CacheFormed (record { table = c .table; values = set (c .values) (x .slot) v })
   stored-formed x v i = record {
@@ -78,6 +83,7 @@ pub record CacheChanges (R : Cache → Cache → Type 0) : Type 0 where
   pub binds : (c : Cache) (k v s : ℕ) (rest : List ℕ) → keyed k (items (c .table .levels)) ≡ 0 → c .table .free ≡ s ∷ rest → R c (bind k v s rest c)
   pub unbinds : (c : Cache) (x : Item) → In x (items (c .table .levels)) → R c (unbind x c)
   pub moves : (c : Cache) (x : Item) → In x (items (c .table .levels)) → R c (moved x (raised CEILING (x .frequency)) c)
+  pub restarts : (c : Cache) (x : Item) → In x (items (c .table .levels)) → R c (restarted x c)
   pub stores : (c : Cache) (x : Item) (v : ℕ) → In x (items (c .table .levels)) → R c (record { table = c .table; values = set (c .values) (x .slot) v })
   pub empties : (c : Cache) → R c (newCache (c .table .capacity))
 
@@ -87,7 +93,7 @@ module _ (R : Cache → Cache → Type 0) (h : CacheChanges R) where
     full-keeps k v none e q f = h .stays c
     full-keeps k v (some x) e q f =
         h .goes-on c (unbind x c) _ (h .unbinds c x (lowest-in (c .table .levels) x e))
-        (h .binds (unbind x c) k v (x .slot) [] (fresh-after k x (c .table) f) (ap {B = List ℕ} (λ r. x .slot ∷ r) q))
+        (h .binds (unbind x c) k v (x .slot) [] (fresh-after k x (c .table) f) (rw q))
 
     new-keeps : (k v : ℕ) (free : List ℕ) → c .table .free ≡ free → keyed k (items (c .table .levels)) ≡ 0 → R c (insertNew free k v c .1)
     new-keeps k v [] q f = full-keeps k v (lowest (c .table .levels)) refl q f
@@ -117,12 +123,7 @@ module _ (R : Cache → Cache → Type 0) (h : CacheChanges R) where
 
     reset-keeps : (k : ℕ) → R c (cacheReset k c .1)
     unfolding cacheReset
-    reset-keeps k =
-        asked-keeps k _
-        (λ x i.
-        h .goes-on c (unbind x c) _ (h .unbinds c x i)
-        (h .binds (unbind x c) (x .key) (valueOf x c) (x .slot) (c .table .free) (fresh-again x (c .table)) refl))
-        (lookup k (c .table)) refl
+    reset-keeps k = asked-keeps k _ (λ x i. h .restarts c x i) (lookup k (c .table)) refl
 
     pub does-keep : (a : CacheCall) → R c (does a c .1)
     unfolding does cachePeek cachePeekLfu cacheEvict cacheClear
@@ -150,6 +151,7 @@ formed-changes = record {
   binds = λ c k v s rest f q w. bind-formed c w k v s rest f q;
   unbinds = λ c x i w. unbind-formed c w x i;
   moves = λ c x i w. moved-formed c w x i;
+  restarts = λ c x i w. restarted-formed c w x i;
   stores = λ c x v i w. stored-formed c w x v i;
   empties = λ c w. newCache-formed (c .table .capacity);
 }
@@ -161,6 +163,7 @@ capacity-changes = record {
   binds = λ c k v s rest f q. refl;
   unbinds = λ c x i. refl;
   moves = λ c x i. refl;
+  restarts = λ c x i. refl;
   stores = λ c x v i. refl;
   empties = λ c. refl;
 }

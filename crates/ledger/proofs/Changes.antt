@@ -9,8 +9,8 @@ use lib.Dec.{eqb}
 use Rattle.numbers.specs.Frequency.{FIRST, CEILING, raised}
 use Rattle.lists.specs.Lists.{In, sum, one, times}
 use Rattle.lists.proofs.Tests.{if-eq, if-lt}
-use Rattle.lists.proofs.Members.{all-in}
-use Rattle.ledger.specs.Ledger.{Entry, Level, Ledger, Item, new, item, tag, items, unlink, put, release, move, NonEmpty, Rising, keyed, WellFormed}
+use Rattle.lists.proofs.Members.{all-in, sum-append}
+use Rattle.ledger.specs.Ledger.{Entry, Level, Ledger, Item, new, item, tag, items, unlink, put, release, move, restart, NonEmpty, Rising, keyed, WellFormed}
 use Rattle.ledger.specs.Buckets.{dated, redated, atEpoch}
 use Rattle.ledger.proofs.Items.{place, cut, items-unlink, items-link, sum-place, sum-cut-in, keyed-cut-same, keyed-cut-le}
 use Rattle.ledger.proofs.Rising.{rising-unlink, rising-link, Within, all-within}
@@ -71,7 +71,7 @@ module _ (l : Ledger) (w : WellFormed l) where
         rw (items-unlink (x .key) (l .levels))
         (let a = sum-cut-in (λ y. one (y .slot) t) (items (l .levels)) x i (w .keys (x .key)) in
         let c = w .slots t in
-        omega arith);
+        omega (arith, sum-append (λ s. one s t) (l .free) (x .slot ∷ [])));
   }
 
   pub move-formed : (x : Item) (f : ℕ) → In x (items (l .levels)) → 1 ≤ f → f ≤ CEILING → WellFormed (move x f l)
@@ -88,6 +88,9 @@ module _ (l : Ledger) (w : WellFormed l) where
         keys = λ j. rw p (omega (arith, sums (λ y. one (y .key) j), w .keys j));
         slots = λ t. rw p (omega (arith, sums (λ y. one (y .slot) t), w .slots t));
       }
+
+  pub restart-formed : (x : Item) → In x (items (l .levels)) → WellFormed (restart x l)
+  restart-formed x i = move-formed x FIRST i (omega arith) (omega arith)
 
   -- the level after a hit is a level
   pub raised-fits : (cap : ℕ) (x : Item) → In x (items (l .levels)) → cap ≤ CEILING → (1 ≤ raised cap (x .frequency)) × (raised cap (x .frequency) ≤ CEILING)

@@ -3,9 +3,9 @@
 use mathlib.Core.Path.{_≡_, refl, ap, _∙_}
 use mathlib.Core.Option.{Option, none, some}
 use mathlib.Core.List.{List, [], _∷_}
-use Prim.Native.Nat.{ℕ, _+_, _≤_}
+use Prim.Native.Nat.{ℕ, _+_, _≤_, _-_}
 use native.Mathlib.Omega.{arith}
-use lib.ListN.{length}
+use lib.ListN.{length, length-append}
 use Rattle.lists.specs.Lists.{In}
 use Rattle.lists.proofs.Members.{in-length}
 use Rattle.ledger.specs.Ledger.{Level, Item, items, lookup, ifFound, size, lowest}
@@ -57,18 +57,22 @@ module _ (c : Cache) (w : CacheFormed c) where
   count-peekLfu none = counts
   count-peekLfu (some x) = counts
 
+  -- a key that goes leaves its slot
+  count-gone : (x : Item) → 1 ≤ size (c .table) → Counts (size (c .table) - 1) c (unbind x c)
+  count-gone x b = let u = counts in omega (arith, length-append (c .table .free) (x .slot ∷ []))
+
   count-evict : (o : Option Item) → lowest (c .table .levels) ≡ o →
       let r = ifFound {A = Least × Cache} o (nothing, c) (λ x. (least (x .key) (valueOf x c), unbind x c)) in
       Counts (recount (says (evicted (r .0))) (size (c .table))) c (r .1)
   count-evict none e = counts
-  count-evict (some x) e = let u = counts in let b = lowest-some (c .table .levels) x e in omega arith
+  count-evict (some x) e = count-gone x (lowest-some (c .table .levels) x e)
 
   count-free : (a : CacheCall) → Counts (recount (says (does a c .0)) (size (c .table))) c (does a c .1)
   unfolding does cacheInsert cacheGet cachePeek cacheRemove cacheReset cachePeekLfu cacheEvict cacheClear
   count-free (Insert k y) = count-insert k y (lookup k (c .table))
   count-free (Get k) = count-asked k (got k) _ refl (λ x b. counts) (lookup k (c .table)) refl
   count-free (Peek k) = count-asked k (peeked k) _ refl (λ x b. counts) (lookup k (c .table)) refl
-  count-free (Remove k) = count-asked k (removed k) _ refl (λ x b. let u = counts in omega arith) (lookup k (c .table)) refl
+  count-free (Remove k) = count-asked k (removed k) _ refl count-gone (lookup k (c .table)) refl
   count-free (Reset k) = count-asked k (reset k) _ refl (λ x b. let u = counts in omega arith) (lookup k (c .table)) refl
   count-free PeekLfu = count-peekLfu (lowest (c .table .levels))
   count-free Evict = count-evict (lowest (c .table .levels)) refl

@@ -181,6 +181,52 @@ keyed-cut-other j k (x ∷ xs) h =
 pub keyed-cut-le : (j k : ℕ) (xs : List Item) → keyed j (cut k xs) ≤ keyed j xs
 keyed-cut-le j k xs = omega (arith, sum-cut (λ x. one (x .key) j) k xs)
 
+-- What is found after a change
+
+-- behind a list without the key
+found-behind : (k f : ℕ) (es : List Entry) (xs ys : List Item) → keyed k (tag f es xs) ≡ 0 → found k (tag f es ys) ≡ found k ys
+found-behind k f [] xs ys h = refl
+found-behind k f (e ∷ es) xs ys h =
+    if-other (e .key) k (some (item f e)) (found k (tag f es ys)) (λ q. absurd (omega (arith, one-same (e .key) k q)))
+    ∙ found-behind k f es xs ys (omega arith)
+
+found-tag : (k f : ℕ) (es : List Entry) (xs ys : List Item) → found k xs ≡ found k ys → found k (tag f es xs) ≡ found k (tag f es ys)
+found-tag k f [] xs ys h = h
+found-tag k f (e ∷ es) xs ys h = ap (λ z. cond (eqb (e .key) k) (some (item f e)) z) (found-tag k f es xs ys h)
+
+-- an unbound key that is put into a list is found there
+pub found-link : (f : ℕ) (e : Entry) (ls : List Level) → keyed (e .key) (items ls) ≡ 0 → found (e .key) (items (link f e ls)) ≡ some (item f e)
+found-link f e [] h = if-same (e .key) (e .key) (some (item f e)) none refl
+found-link f e (l ∷ ls) h =
+    let here : (xs : List Item) → found (e .key) (item f e ∷ xs) ≡ some (item f e)
+    = λ xs. if-same (e .key) (e .key) (some (item f e)) (found (e .key) xs) refl in
+    if-lt (λ z. found (e .key) (items z) ≡ some (item f e)) (l .frequency) f
+    (λ s.
+    found-behind (e .key) (l .frequency) (l .entries) (items ls) (items (link f e ls)) h
+    ∙ found-link f e ls (omega (arith, sum-tag (λ x. one (x .key) (e .key)) (l .frequency) (l .entries) (items ls))))
+    (λ s.
+    if-eq (λ z. found (e .key) (items z) ≡ some (item f e)) (l .frequency) f
+    (λ q. here (tag f (l .entries) (items ls))) (λ q. here (items (l ∷ ls))))
+
+-- and other keys are found as before
+pub found-link-other : (j f : ℕ) (e : Entry) (ls : List Level) → e .key ≢ j → found j (items (link f e ls)) ≡ found j (items ls)
+found-link-other j f e [] d = if-other (e .key) j (some (item f e)) none d
+found-link-other j f e (l ∷ ls) d =
+    let past : (xs : List Item) → found j (item f e ∷ xs) ≡ found j xs = λ xs. if-other (e .key) j (some (item f e)) (found j xs) d in
+    if-lt (λ z. found j (items z) ≡ found j (items (l ∷ ls))) (l .frequency) f
+    (λ s. found-tag j (l .frequency) (l .entries) (items (link f e ls)) (items ls) (found-link-other j f e ls d))
+    (λ s.
+    if-eq (λ z. found j (items z) ≡ found j (items (l ∷ ls))) (l .frequency) f
+    (λ q. past (tag f (l .entries) (items ls)) ∙ ap (λ (g : ℕ). found j (tag g (l .entries) (items ls))) (sym q)) (λ q. past (items (l ∷ ls))))
+
+pub found-cut-other : (j k : ℕ) (xs : List Item) → j ≢ k → found j (cut k xs) ≡ found j xs
+found-cut-other j k [] d = refl
+found-cut-other j k (x ∷ xs) d =
+    let ih = found-cut-other j k xs d in
+    if-eq (λ z. found j z ≡ found j (x ∷ xs)) (x .key) k
+    (λ s. ih ∙ sym (if-other (x .key) j (some x) (found j xs) (λ q. d (sym q ∙ s))))
+    (λ q. ap (λ z. cond (eqb (x .key) j) (some x) z) ih)
+
 -- What holds of all items
 
 pub all-cut : (P : Item → Type 0) (k : ℕ) (xs : List Item) → All P xs → All P (cut k xs)

@@ -5,6 +5,7 @@ pub mod Changes
 pub mod Regrouped
 pub mod Halvings
 pub mod Kept
+pub mod Rests
 pub mod Walked
 pub mod RegroupOrder
 pub mod Refusals

@@ -8,18 +8,18 @@ use Prim.Native.Nat.{ℕ, suc, _+_, _≤_, _<_}
 use native.Mathlib.Omega.{arith}
 use lib.Dec.{eqb}
 use lib.ListN.{length, set}
-use Rattle.numbers.specs.Frequency.{CEILING, raised}
+use Rattle.numbers.specs.Frequency.{FIRST, CEILING, raised}
 use Rattle.lists.specs.Lists.{In}
 use Rattle.lists.proofs.Tests.{if-eq, if-same, if-other, if-less}
 use Rattle.lists.proofs.Members.{all-in}
-use Rattle.ledger.specs.Ledger.{Entry, Item, item, items, lookup, ifFound, lowest, keyed}
-use Rattle.ledger.specs.Cache.{Cache, CacheFormed, newCache, Lookup, miss, Least, least, nothing, bind, unbind, moved, valueOf, insertFull, insertNew, insertAt, cacheInsert, cacheGet, cachePeek, cacheRemove, cacheReset, cachePeekLfu, cacheEvict, cacheClear}
+use Rattle.ledger.specs.Ledger.{Entry, Item, item, items, lookup, ifFound, lowest, move, keyed}
+use Rattle.ledger.specs.Cache.{Cache, CacheFormed, newCache, Lookup, miss, Least, least, nothing, bind, unbind, moved, restarted, valueOf, insertFull, insertNew, insertAt, cacheInsert, cacheGet, cachePeek, cacheRemove, cacheReset, cachePeekLfu, cacheEvict, cacheClear}
 use Rattle.ledger.specs.History.{CacheCall, Insert, Get, Peek, Remove, Reset, PeekLfu, Evict, Clear, Len, Event, inserted, got, peeked, removed, reset, peekedLfu, evicted, does, log, afterAll, says, Standing, unbound, guest, struck, next, follow, standing}
 use Rattle.ledger.specs.Demand3.{EmptyCache, CALLS}
 use Rattle.ledger.proofs.Items.{found-in, found-none, place, cut, items-unlink, items-link, keyed-cut-same}
 use Rattle.ledger.proofs.Rising.{lowest-in}
-use Rattle.ledger.proofs.Changes.{fresh-after, fresh-again, items-move}
-use Rattle.ledger.proofs.CacheKept.{newCache-formed, all-formed, bind-formed, unbind-formed, moved-formed, stored-formed}
+use Rattle.ledger.proofs.Changes.{fresh-after, items-move}
+use Rattle.ledger.proofs.CacheKept.{newCache-formed, all-formed, bind-formed, unbind-formed, moved-formed, restarted-formed, stored-formed}
 use Rattle.ledger.proofs.Told.{Book, write, Knows, Told, told-cut, told-later, told-place}
 
 -- after `now` calls, when the history says b of each key, in a cache of capacity n
@@ -86,6 +86,20 @@ module _ (n now : ℕ) (b : Book) (c : Cache) (v : Inv n now b c) where
   inv-stored x y i =
       record { formed = stored-formed c (v .formed) x y i; told = told-later now b (items (c .table .levels)) (v .told); capacity = v .capacity }
 
+  -- a key cut out and placed again at the head of the list of frequency f, which is that of n hits
+  told-again : (x : Item) (f n : ℕ) → f ≡ n + 1 → n ≤ now → Told (now + 1) (write b (x .key) (guest n now)) (items (move x f (c .table) .levels))
+  told-again x f n e l =
+      let d : Entry = record { key = x .key; slot = x .slot; epoch = c .table .epoch } in
+      let xs = items (c .table .levels) in
+      let gone = told-cut now b xs (x .key) (v .told) in
+      let placed = told-place now (write b (x .key) unbound) (cut (x .key) xs) (item f d) n gone (keyed-cut-same (x .key) xs) e l in
+      rw (items-move x f (c .table) (v .formed .table .rising))
+      (subst (λ z. Told (now + 1) z (place (item f d) (cut (x .key) xs))) (fun-ext (write-twice b (x .key) unbound (guest n now))) placed)
+
+  inv-restart : (x : Item) → In x (items (c .table .levels)) → Inv n (now + 1) (write b (x .key) (guest 0 now)) (restarted x c)
+  inv-restart x i =
+      record { formed = restarted-formed c (v .formed) x i; told = told-again x FIRST 0 refl (omega arith); capacity = v .capacity }
+
   pub knows : (x : Item) → In x (items (c .table .levels)) → Knows now x (b (x .key))
   knows x i = all-in (λ y. Knows now y (b (y .key))) (items (c .table .levels)) x (v .told .each) i
 
@@ -99,16 +113,7 @@ module _ (n now : ℕ) (b : Book) (c : Cache) (v : Inv n now b c) where
       let h2 : g < now = h .2 in
       let lt : x .frequency < CEILING = omega arith in
       let u : f ≡ x .frequency + 1 = if-less (x .frequency) CEILING (x .frequency + 1) (x .frequency) lt in
-      let d : Entry = record { key = x .key; slot = x .slot; epoch = c .table .epoch } in
-      let xs = items (c .table .levels) in
-      let w = told-place now (write b (x .key) unbound) (cut (x .key) xs) (item f d) (g + 1) (told-cut now b xs (x .key) (v .told)) (keyed-cut-same (x .key) xs) (omega arith) (omega arith) in
-      record {
-        formed = moved-formed c (v .formed) x i;
-        told =
-            rw (items-move x f (c .table) (v .formed .table .rising))
-            (subst (λ z. Told (now + 1) z (place (item f d) (cut (x .key) xs))) (fun-ext (write-twice b (x .key) unbound (guest (g + 1) now))) w);
-        capacity = v .capacity;
-      }
+      record { formed = moved-formed c (v .formed) x i; told = told-again x f (g + 1) (omega arith) (omega arith); capacity = v .capacity }
 
 -- The calls, one by one
 
@@ -118,7 +123,7 @@ module _ (n now : ℕ) (b : Book) (c : Cache) (v : Inv n now b c) where
   full-step k y none e q f = inv-later n now b c v
   full-step k y (some x) e q f =
       inv-bind n now (write b (x .key) unbound) (unbind x c) (inv-unbind n now b c v x (lowest-in (c .table .levels) x e)) k y (x .slot) []
-      (fresh-after k x (c .table) f) (ap {B = List ℕ} (λ r. x .slot ∷ r) q)
+      (fresh-after k x (c .table) f) (rw q)
 
   new-step : (k y : ℕ) (free : List ℕ) → c .table .free ≡ free → keyed k (items (c .table .levels)) ≡ 0 →
       Inv n (now + 1) (λ j. next j now (says (inserted k y (insertNew free k y c .0))) (b j)) (insertNew free k y c .1)
@@ -151,11 +156,11 @@ module _ (n now : ℕ) (b : Book) (c : Cache) (v : Inv n now b c) where
       (inv-same n now _ _ _ (λ j. ap (λ (m : ℕ). write b m unbound j) (q .1)) (inv-unbind n now b c v x (q .0)))
 
   reset-step : (k : ℕ) (x : Item) → lookup k (c .table) ≡ some x →
-      Inv n (now + 1) (write (write b k unbound) k (guest 0 now)) (bind (x .key) (valueOf x c) (x .slot) (c .table .free) (unbind x c))
+      Inv n (now + 1) (write (write b k unbound) k (guest 0 now)) (restarted x c)
   reset-step k x e =
       let q = found-in k (items (c .table .levels)) x e in
-      inv-same n (now + 1) _ _ _ (λ j. ap (λ (m : ℕ). write (write b m unbound) m (guest 0 now) j) (q .1))
-      (inv-bind n now (write b (x .key) unbound) (unbind x c) (inv-unbind n now b c v x (q .0)) (x .key) (valueOf x c) (x .slot) (c .table .free) (fresh-again x (c .table)) refl)
+      inv-same n (now + 1) _ _ _ (λ j. ap (λ (m : ℕ). write b m (guest 0 now) j) (q .1) ∙ sym (write-twice b k unbound (guest 0 now) j))
+      (inv-restart n now b c v x (q .0))
 
   peekLfu-step : (o : Option Item) →
       let r = ifFound {A = Least × Cache} o (nothing, c) (λ x. (least (x .key) (valueOf x c), c)) in

@@ -7,7 +7,7 @@ use lib.ListN.{length, getD, set, replicate}
 use Rattle.numbers.specs.Frequency.{CEILING, raised}
 use Rattle.numbers.specs.declared.Answer.the-variants.{Absent, Full, Empty}
 use Rattle.lists.specs.Lists.{times}
-use Rattle.ledger.specs.Ledger.{Ledger, Item, WellFormed, new, lookup, ifFound, size, lowest, put, release, move}
+use Rattle.ledger.specs.Ledger.{Ledger, Item, WellFormed, new, lookup, ifFound, size, lowest, put, release, move, restart}
 use Rattle.ledger.specs.Buckets.{Reply, done, refused}
 
 pub record Cache : Type 0 where
@@ -55,7 +55,7 @@ abbrev pub leastReply : Least → Reply
 leastReply (least k v) = done (k ∷ v ∷ [])
 leastReply nothing = refused Empty
 
--- The three changes: a ledger's change, and what it does to the value
+-- The four changes: a ledger's change, and what it does to the value
 
 abbrev pub valueOf : Item → Cache → ℕ
 valueOf x c = getD (c .values) (x .slot) 0
@@ -68,6 +68,9 @@ unbind x c = record { table = release x (c .table); values = set (c .values) (x 
 
 abbrev pub moved : Item → ℕ → Cache → Cache
 moved x f c = record { table = move x f (c .table); values = c .values }
+
+abbrev pub restarted : Item → Cache → Cache
+restarted x c = record { table = restart x (c .table); values = c .values }
 
 -- The calls
 
@@ -99,11 +102,9 @@ cachePeek k c = ifFound (lookup k (c .table)) (miss, c) (λ x. (hit (valueOf x c
 unfoldable pub cacheRemove : ℕ → Cache → Lookup × Cache
 cacheRemove k c = ifFound (lookup k (c .table)) (miss, c) (λ x. (hit (valueOf x c), unbind x c))
 
--- answers the previous frequency; the key is let go and bound again in the slot let go, with its value
+-- answers the previous frequency; the key starts again, in its slot and with its value (document 02, K4)
 unfoldable pub cacheReset : ℕ → Cache → Lookup × Cache
-cacheReset k c =
-    ifFound (lookup k (c .table)) (miss, c) (λ x.
-    (hit (x .frequency), bind (x .key) (valueOf x c) (x .slot) (c .table .free) (unbind x c)))
+cacheReset k c = ifFound (lookup k (c .table)) (miss, c) (λ x. (hit (x .frequency), restarted x c))
 
 unfoldable pub cachePeekLfu : Cache → Least × Cache
 cachePeekLfu c = ifFound (lowest (c .table .levels)) (nothing, c) (λ x. (least (x .key) (valueOf x c), c))

@@ -2,7 +2,7 @@
 use mathlib.Core.Path.{_≡_}
 use mathlib.Core.Bool.{cond}
 use mathlib.Core.Option.{Option, none, some}
-use mathlib.Core.List.{List, [], _∷_}
+use mathlib.Core.List.{List, [], _∷_, _++_}
 use Prim.Native.Nat.{ℕ, _+_, _≤_, _<_}
 use lib.ListN.{length}
 use lib.Dec.{eqb, ltb}
@@ -115,13 +115,13 @@ put k s rest l = record {
   free = rest;
 }
 
--- a bound key let go: its slot goes to the front of the free order
+-- a bound key let go: its slot joins the free order at the back (document 02, K4)
 abbrev pub release : Item → Ledger → Ledger
 release x l = record {
   capacity = l .capacity;
   epoch = l .epoch;
   levels = unlink (x .key) (l .levels);
-  free = x .slot ∷ l .free;
+  free = l .free ++ x .slot ∷ [];
 }
 
 -- a bound key moved to the head of the list of frequency f, its epoch refreshed
@@ -130,6 +130,15 @@ move x f l = record {
   capacity = l .capacity;
   epoch = l .epoch;
   levels = link f (record { key = x .key; slot = x .slot; epoch = l .epoch }) (unlink (x .key) (l .levels));
+  free = l .free;
+}
+
+-- a bound key starts again: at the head of list 1 with the current epoch; its slot and the free order stay (document 02, K4)
+abbrev pub restart : Item → Ledger → Ledger
+restart x l = record {
+  capacity = l .capacity;
+  epoch = l .epoch;
+  levels = link FIRST (record { key = x .key; slot = x .slot; epoch = l .epoch }) (unlink (x .key) (l .levels));
   free = l .free;
 }
 

@@ -4,7 +4,9 @@ pub mod OldTouches
 pub mod Walk
 pub mod Regroup
 pub mod BucketCalls
+pub mod Rests
 pub mod Cache
+pub mod Unslotted
 pub mod History
 pub mod CacheCalls
 pub mod Refusals

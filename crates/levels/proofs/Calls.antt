@@ -1,4 +1,4 @@
--- What touch, bind and unbind do to the levels: leave and enter put together, or one of the two short ways.
+-- What touch, restart, bind and unbind do to the levels: leave and enter put together, or one of the two short ways.
 use mathlib.Core.Path.{_≡_, refl, sym, ap, _∙_, subst}
 use mathlib.Core.Logic.{_≢_, inl}
 use mathlib.Core.List.{List, [], _∷_, _++_, append-assoc, append-nil}
@@ -21,9 +21,9 @@ use Rattle.bucket_table.proofs.Rows.{nums-append, rising-around, rising-above, 
 use Rattle.levels.specs.declared.Left.{Left}
 use Rattle.levels.specs.Levels.{Level, level, Nowhere, keep, join, touched}
 use Rattle.levels.specs.Held.{Tabs, tabs, Line, line, rows, Held, Parted}
-use Rattle.levels.specs.Calls.{Fronts, InPlace, Lifts, Ready, Binding, Unbinds, SlotBound, LevelTouches, LevelBinds, LevelLeaves, LevelEnters}
+use Rattle.levels.specs.Calls.{Fronts, InPlace, Lifts, Ready, Binding, Unbinds, SlotBound, LevelTouches, LevelRestarts, LevelBinds, LevelLeaves, LevelEnters}
 use Rattle.levels.proofs.Lines.{view-append, all-view, all-rows, lines-room, records-mid, line-in, written, split-held, split-at}
-use Rattle.levels.proofs.One.{free-nowhere}
+use Rattle.levels.proofs.One.{free-nowhere, free-exact}
 use Rattle.levels.proofs.Leave.{bound-split, bound-fits, bound-records}
 
 -- ---- the order of the levels
@@ -184,6 +184,24 @@ bound-spots t s x b r er =
     let h' : RecordsHold (t .buckets) (t .spares) s ((rows (k .lower) ++ w ∷ []) ++ rows (k .upper)) = rw append-assoc h in
     let e : r ≡ final NONE (nums (rows (k .lower) ++ w ∷ [])) = sym (ap (final NONE) (nums-append (rows (k .lower)) (w ∷ [])) ∙ final-append NONE (nums (rows (k .lower))) (r ∷ [])) in
     (inl (row-in (t .buckets) (t .spares) s (rows (k .lower)) w (rows (k .upper)) h), rw e (above-spot (t .buckets) (t .spares) s (rows (k .lower) ++ w ∷ []) (rows (k .upper)) h'))
+
+-- ---- `restart`
+
+module _ (t : Tabs) (s : Buckets) (x : ℕ) (t₁ : Tabs) (o : Left) (d : LevelLeaves t s x t₁ o) where
+  -- the slot that has left is marked free
+  pub restart-ready : SlotBound t s x → Binding t₁ (o .state) x
+  restart-ready b =
+      let r = left-ready t s x t₁ o d b in
+      let ls = r .us ++ r .vs in
+      let h = parted-held t₁ (o .state) (o .at) (r .us) (r .vs) (r .parted) in
+      record { sound = (ls, h); slot = r .slot; next-own = free-exact t₁ (o .state) ls h x (r .slot) .1 (r .away) }
+
+  pub restarts : (t' : Tabs) (s' : Buckets) → LevelBinds t₁ (o .state) x t' s' → LevelRestarts t s x t' s'
+  restarts t' s' en = record {
+    holds = λ us f xs ys vs h.
+        let lower = us ++ keep f (xs ++ ys) [] in
+        rw (keep-append us f (xs ++ ys) vs) at (en .holds (lower ++ vs) (parted-held t₁ (o .state) (o .at) lower vs (d .holds us f xs ys vs h)));
+  }
 
 -- ---- `unbind`
 

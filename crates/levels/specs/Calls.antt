@@ -96,6 +96,11 @@ pub record LevelTouches (t : Tabs) (s : Buckets) (x cap : ℕ) (t' : Tabs) (r : 
   pub holds : (us : List Level) (f : ℕ) (xs ys : List ℕ) (vs : List Level)
       → Held t s (us ++ level f (xs ++ x ∷ ys) ∷ vs) → Held t' (r .state) (us ++ touched cap x f (xs ++ ys) vs)
 
+-- x is at the head of the first level, which is the lowest there can be, and the others are as they were
+pub record LevelRestarts (t : Tabs) (s : Buckets) (x : ℕ) (t' : Tabs) (s' : Buckets) : Type 0 where
+  pub holds : (us : List Level) (f : ℕ) (xs ys : List ℕ) (vs : List Level)
+      → Held t s (us ++ level f (xs ++ x ∷ ys) ∷ vs) → Held t' s' (join x FIRST (us ++ keep f (xs ++ ys) vs))
+
 -- x is a slot that is marked free
 pub record Binding (t : Tabs) (s : Buckets) (x : ℕ) : Type 0 where
   pub sound : LevelsSound t s

@@ -7,7 +7,7 @@ ghost use Rattle.links.specs.Linked.{Fits};
 ghost use Rattle.bucket_table.specs.Records.{up, InTable, Spot};
 ghost use Rattle.levels.specs.Held.{Even};
 ghost use Rattle.levels.specs.Slices.{lent, before, after};
-ghost use Rattle.levels.specs.Calls.{Frees, Attaching, Attaches, Fronts, InPlace, Lifts, Leaving, Ready, Binding, Unbinds, SoundWith, Lowest, LowestFrequency, Heads, SlotBound, LevelTouches, LevelBinds, LevelLeaves, LevelEnters, LevelsReset};
+ghost use Rattle.levels.specs.Calls.{Frees, Attaching, Attaches, Fronts, InPlace, Lifts, Leaving, Ready, Binding, Unbinds, SoundWith, Lowest, LowestFrequency, Heads, SlotBound, LevelTouches, LevelRestarts, LevelBinds, LevelLeaves, LevelEnters, LevelsReset};
 use crate::Left;
 use crate::Touched;
 use bucket_table::Buckets;
@@ -192,6 +192,24 @@ pub fn touch(
         frequency: raised,
         state: after,
     }
+}
+
+// Takes a slot to the front of the first level.
+pub fn restart(
+    freqs: &mut [u64],
+    prevs: &mut [u64],
+    nexts: &mut [u64],
+    buckets: &mut [u64],
+    spares: &mut [u64],
+    state: Buckets,
+    slot: Slot,
+) -> Buckets
+    requires { ⌜ SlotBound (lent freqs prevs nexts buckets spares) state (slot .0) ⌝ }
+    ensures { λ r. ⌜ LevelRestarts (before freqs prevs nexts buckets spares) state (slot .0) (after freqs prevs nexts buckets spares) r ⌝ }
+{
+    let number = bucket_table::sound::owner(&buckets[..], slot);
+    let left = leave(freqs, prevs, nexts, buckets, spares, state, number, slot);
+    bind(freqs, prevs, nexts, buckets, spares, left.state, slot)
 }
 
 // Binds a free slot at the first frequency. No level is below that one.

@@ -232,15 +232,15 @@ pub fn evict_min_freq(
     }
 }
 
-// Lets go a bound key and binds it again with its value; the answer is its frequency before.
+// A bound key starts again, in its slot and with its value; the answer is its frequency before.
 pub fn reset_frequency(
-    keys: &mut [u64],
+    keys: &[u64],
     freqs: &mut [u64],
     epochs: &mut [u64],
     prevs: &mut [u64],
     nexts: &mut [u64],
-    arena: &mut [u64],
-    index: &mut [u64],
+    arena: &[u64],
+    index: &[u64],
     buckets: &mut [u64],
     spares: &mut [u64],
     values: &[u64],
@@ -252,13 +252,13 @@ pub fn reset_frequency(
         (after keys freqs epochs prevs nexts arena index buckets spares values) (r .state) ⌝ }
 {
     let why = cache_check::refusal(
-        &keys[..],
+        keys,
         &freqs[..],
         &epochs[..],
         &prevs[..],
         &nexts[..],
-        &arena[..],
-        &index[..],
+        arena,
+        index,
         &buckets[..],
         &spares[..],
         values,
@@ -271,7 +271,6 @@ pub fn reset_frequency(
             epochs,
             prevs,
             nexts,
-            arena,
             index,
             buckets,
             spares,

@@ -6,10 +6,10 @@ use mathlib.Core.List.{List, [], _∷_, _++_, append-assoc, append-nil}
 use Prim.Native.Nat.{ℕ, _≤_, _<_}
 use native.Mathlib.Omega.{arith}
 use lib.ListN.{length, set, length-append}
-use lib.Seq.{getD-set-other}
+use lib.Seq.{getD-set-same, getD-set-other}
 use Rattle.numbers.specs.Marks.{NONE}
-use Rattle.lists.specs.Lists.{All, Without, Distinct}
-use Rattle.lists.proofs.Members.{all-map, all-any}
+use Rattle.lists.specs.Lists.{All, Without, Distinct, final}
+use Rattle.lists.proofs.Members.{all-map, all-any, final-in}
 use Rattle.lists.proofs.Pigeonhole.{pigeon}
 use Rattle.links.specs.Chain.{Chain, Walked, cells}
 
@@ -26,6 +26,19 @@ cells-set t s v xs w = all-map (λ x. x ≢ s) (λ x. cells (set t s v) x ≡ ce
 -- a store elsewhere keeps a chain
 pub chain-set : (size : ℕ) (t : List ℕ) (s v f : ℕ) (xs : List ℕ) → Without s xs → Chain size (cells t) f xs → Chain size (cells (set t s v)) f xs
 chain-set size t s v f xs w p = chain-same size (cells t) (cells (set t s v)) f xs (cells-set t s v xs w) p
+
+-- a store at the last member makes the chain go on to s, whose link is NONE
+pub chain-on : (t : List ℕ) (s f x : ℕ) (xs : List ℕ) → s < length t → cells t s ≡ NONE → Distinct (x ∷ xs) → Without s (x ∷ xs)
+    → Chain (length t) (cells t) f (x ∷ xs) → Chain (length t) (cells (set t (final x xs) s)) f (x ∷ (xs ++ s ∷ []))
+chain-on t s f x [] l e d w p =
+    (p .0, p .1, (getD-set-same t x s 0 (p .1), l, getD-set-other t x s s 0 (λ q. w .0 (sym q)) ∙ e))
+chain-on t s f x (y ∷ ys) l e d w p =
+    let apart : x ≢ final y ys = λ q. final-in (λ k. k ≢ x) y ys (d .0 .0) (d .0 .1) (sym q) in (
+      p .0,
+      p .1,
+      subst (λ (k : ℕ). Chain (length t) (cells (set t (final y ys) s)) k (y ∷ (ys ++ s ∷ []))) (sym (getD-set-other t (final y ys) x s 0 apart))
+          (chain-on t s (cells t x) y ys l e (d .1) (w .1) (p .2)),
+    )
 
 module _ (size : ℕ) (n : ℕ → ℕ) where
   pub chain-below : (f : ℕ) (xs : List ℕ) → Chain size n f xs → All (λ x. x < size) xs

@@ -2,12 +2,12 @@
 use mathlib.Core.Path.{_≡_, sym, ap, _∙_, subst}
 use mathlib.Core.Logic.{_≢_, _↔_}
 use mathlib.Core.List.{List, [], _∷_, _++_}
-use Prim.Native.Nat.{ℕ, _+_, _≤_, _<_, _-_}
+use Prim.Native.Nat.{ℕ, _+_, _≤_, _<_}
 use native.Mathlib.Omega.{arith}
 use lib.ListN.{length, length-append}
 use Rattle.lists.specs.Lists.{All, In, Without, Distinct, from, times}
 use Rattle.lists.proofs.Tests.{by-eq}
-use Rattle.lists.proofs.Members.{all-map, all-both, all-in, all-mid, all-put, all-from, length-from, times-in, without-times}
+use Rattle.lists.proofs.Members.{all-map, all-both, all-append, all-in, all-mid, all-put, length-from, times-in, without-times}
 use Rattle.lists.proofs.Totals.{length-total, total-add, total-ones, total-tight}
 use Rattle.lists.proofs.Pigeonhole.{distinct-times}
 use Rattle.slot_arena.specs.declared.Order.{Order}
@@ -103,20 +103,17 @@ uses-release t o s t' o' us vs k u w =
     let m = all-mid (InUse t) us s vs (u .marks) in
     let h' = k .holds free h (m .0) in
     record {
-      sound = (s ∷ free, h');
-      many = omega (arith, u .many, length-append us vs, length-append us (s ∷ vs), k .size);
+      sound = (free ++ s ∷ [], h');
+      many = omega (arith, u .many, length-append us vs, length-append us (s ∷ vs), length-append free (s ∷ []), k .size);
       marks =
           all-both (InUse t) (λ y. y ≢ s) (InUse t')
-          (λ y i d. in-use-exact t' o' (s ∷ free) h' y .1 (omega (arith, k .size, i .0), ((λ q. d (sym q)), marked-without t o free h y (i .1))))
+          (λ y i d.
+          in-use-exact t' o' (free ++ s ∷ []) h' y .1
+          (omega (arith, k .size, i .0), all-append (λ z. z ≢ y) free (s ∷ []) (marked-without t o free h y (i .1)) ((λ q. d (sym q)), tt)))
           (us ++ vs) (m .1) w;
     }
 
--- a filled table has the slots below n in use
-pub uses-filled : (t : List ℕ) (n : ℕ) (t' : List ℕ) (o : Order) → n ≤ length t → Filled t n t' o → Uses t' o (from 0 n)
-uses-filled t n t' o l k = record {
-  sound = (from n (length t - n), k .holds);
-  many = omega (arith, length-from n (length t - n), length-from 0 n, k .size);
-  marks =
-      all-from (InUse t') 0 n
-      (λ x z b. in-use-exact t' o (from n (length t - n)) (k .holds) x .1 (omega (arith, k .size), all-from (λ y. y ≢ x) n (length t - n) (λ y m i q. omega arith)));
-}
+-- a filled table has no slot in use
+pub uses-filled : (t t' : List ℕ) (o : Order) → Filled t t' o → Uses t' o []
+uses-filled t t' o k =
+    record { sound = (from 0 (length t), k .holds); many = omega (arith, length-from 0 (length t), k .size); marks = tt }

@@ -1,7 +1,7 @@
 -- What a table of slots stands for, and what each call does to it. `arena[s]` is the free slot after s, NONE at the last one, USED at a slot in use.
 use mathlib.Core.Path.{_≡_}
-use mathlib.Core.List.{List, _∷_}
-use Prim.Native.Nat.{ℕ, _+_, _≤_, _<_, _-_}
+use mathlib.Core.List.{List, [], _∷_, _++_}
+use Prim.Native.Nat.{ℕ, _+_, _≤_, _<_}
 use lib.ListN.{length, getD}
 use Rattle.numbers.specs.Marks.{LIMIT, NONE}
 use Rattle.lists.specs.Lists.{All, Without, final, from}
@@ -34,10 +34,10 @@ pub record Uses (t : List ℕ) (o : Order) (rs : List ℕ) : Type 0 where
   pub many : length (sound .0) + length rs ≡ length t
   pub marks : All (InUse t) rs
 
--- `fill`: from n on the slots are free in ascending order, whatever the table held
-pub record Filled (t : List ℕ) (n : ℕ) (t' : List ℕ) (o : Order) : Type 0 where
+-- `fill`: all slots are free in ascending order, whatever the table held
+pub record Filled (t t' : List ℕ) (o : Order) : Type 0 where
   pub size : length t' ≡ length t
-  pub holds : ArenaHolds t' o (from n (length t - n))
+  pub holds : ArenaHolds t' o (from 0 (length t))
 
 -- `take`: the first free slot is handed out, the others stay free in their order
 pub record Takes (t : List ℕ) (o : Order) (t' : List ℕ) (r : Taken) : Type 0 where
@@ -45,7 +45,7 @@ pub record Takes (t : List ℕ) (o : Order) (t' : List ℕ) (r : Taken) : Type 0
   pub slot : r .slot .0 ≡ o .first
   pub holds : (s : ℕ) (rest : List ℕ) → ArenaHolds t o (s ∷ rest) → ArenaHolds t' (r .order) rest
 
--- `release`: a slot in use becomes the first free one
+-- `release`: a slot in use becomes the last free one
 pub record Releases (t : List ℕ) (o : Order) (s : ℕ) (t' : List ℕ) (o' : Order) : Type 0 where
   pub size : length t' ≡ length t
-  pub holds : (free : List ℕ) → ArenaHolds t o free → InUse t s → ArenaHolds t' o' (s ∷ free)
+  pub holds : (free : List ℕ) → ArenaHolds t o free → InUse t s → ArenaHolds t' o' (free ++ s ∷ [])

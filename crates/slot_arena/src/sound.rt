@@ -11,20 +11,20 @@ use crate::USED;
 use numbers::NONE;
 use numbers::Slot;
 
-// The slots below `used` are in use, the others free in ascending order. Linear in the table's length.
-pub fn fill(arena: &mut [u64], used: u64) -> Order
-    requires { ⌜ (length (now arena) ≤ LIMIT) × (used ≤ length (now arena)) ⌝ }
-    ensures { λ r. ⌜ Filled (now (arena .entry)) used (now (arena .exit)) r ⌝ }
+// All slots are free in ascending order. Linear in the table's length.
+pub fn fill(arena: &mut [u64]) -> Order
+    requires { ⌜ length (now arena) ≤ LIMIT ⌝ }
+    ensures { λ r. ⌜ Filled (now (arena .entry)) (now (arena .exit)) r ⌝ }
 {
     let capacity = arena.len() as u64;
     let mut i: usize = 0;
     while i < arena.len() {
-        arena[i] = filled_cell(used, capacity, i as u64);
+        arena[i] = filled_cell(capacity, i as u64);
         i += 1;
     }
-    if used < capacity {
+    if 0 < capacity {
         return Order {
-            first: used,
+            first: 0,
             last: capacity - 1,
         };
     }
@@ -35,13 +35,10 @@ pub fn fill(arena: &mut [u64], used: u64) -> Order
 }
 
 // What a filled table has at slot i.
-fn filled_cell(used: u64, capacity: u64, i: u64) -> u64
+fn filled_cell(capacity: u64, i: u64) -> u64
     requires { ⌜ i < capacity ⌝ }
-    ensures { λ r. ⌜ r ≡ filledCell used capacity i ⌝ }
+    ensures { λ r. ⌜ r ≡ filledCell capacity i ⌝ }
 {
-    if i < used {
-        return USED;
-    }
     if i + 1 < capacity {
         return i + 1;
     }
@@ -74,21 +71,23 @@ pub fn take(arena: &mut [u64], order: Order) -> Taken
     }
 }
 
-// Takes a slot back: it is the first to be handed out again.
+// Takes a slot back: it is linked behind the last free one, and is the last to be handed out again.
 pub fn release(arena: &mut [u64], order: Order, slot: Slot) -> Order
     requires { ⌜ slot .0 < length (now arena) ⌝ }
     ensures { λ r. ⌜ Releases (now (arena .entry)) order (slot .0) (now (arena .exit)) r ⌝ }
 {
     let s = slot.0 as usize;
-    arena[s] = order.first;
-    if order.first == NONE {
+    arena[s] = NONE;
+    let last = order.last as usize;
+    if last < arena.len() {
+        arena[last] = slot.0;
         return Order {
-            first: slot.0,
+            first: order.first,
             last: slot.0,
         };
     }
     Order {
         first: slot.0,
-        last: order.last,
+        last: slot.0,
     }
 }

@@ -9,7 +9,8 @@ use Rattle.ledger.specs.Cache.{Cache}
 use Rattle.ledger.specs.History.{Get, Peek, Reset, PeekLfu, Clear}
 use Rattle.promise.specs.Promise.{Sound}
 use Rattle.buckets_tables.specs.declared.State.{State}
-use Rattle.buckets_tables.specs.Tables.{Tables, tables}
+use Rattle.buckets_tables.specs.Tables.{tables}
+use Rattle.buckets_calls.specs.Calls as eight
 use Rattle.cache_tables.specs.Tables.{CacheTables, withValues, CacheHolds}
 use Rattle.cache_tables.specs.Lent.{cache}
 use Rattle.cache_calls.specs.Calls.{before, after}
@@ -32,9 +33,11 @@ abbrev pub OfGet : (key : ℕ) → (keys freqs epochs prevs nexts index buckets 
 OfGet key k f e p n i b sp vs s r =
     (a : List ℕ) → Lines (tells (Get key)) (before a k f e p n i b sp vs) s (r .line) (after a k f e p n i b sp vs) (r .state)
 
--- a reset is not lent the values
-abbrev pub OfReset : (key : ℕ) → Tables → State → Tables → Told → Type 0
-OfReset key t s t' r = (vs : List ℕ) → Lines (tells (Reset key)) (withValues t vs) s (r .line) (withValues t' vs) (r .state)
+-- a reset is lent neither the arena nor the values
+abbrev pub OfReset : (key : ℕ) → (keys freqs epochs prevs nexts index buckets spares : Slice) → State → Told → Type 0
+OfReset key k f e p n i b sp s r =
+    (a vs : List ℕ) →
+    Lines (tells (Reset key)) (withValues (eight.before a k f e p n i b sp) vs) s (r .line) (withValues (eight.after a k f e p n i b sp) vs) (r .state)
 
 -- a peek is lent keys, index and values
 abbrev pub OfPeek : (key : ℕ) → (k i vs : List ℕ) → State → Told → Type 0

@@ -63,7 +63,7 @@ fn act(
         3 => peek(&k[..], &i[..], &vs[..], ask),
         4 => remove(k, f, e, p, n, a, i, b, sp, vs, ask),
         5 => least(&k[..], &b[..], &vs[..], ask),
-        6 => reset(k, f, e, p, n, a, i, b, sp, ask),
+        6 => reset(&k[..], f, e, p, n, &i[..], b, sp, ask),
         7 => clear(k, f, e, p, n, a, i, sp, vs, ask),
         8 => evict(k, f, e, p, n, a, i, b, sp, vs, ask),
         9..=255 => bad(ask),

@@ -210,37 +210,37 @@ returns-5 : tie.Need-returns-5
 returns-5 c = acted _ _ _ _ _ _ 46 (c .before .before .before .before .before .before .before .before .before .before .before .before .before .before .before .before .before .before .before .before .before .before .before .before .before .before .before .before .before .before .before .before .match .keys5) _ _ (called _ _ _ _ _ _ (c .evicted .ensures .1) Evict _ (c .evicted .ensures .0) (c .before .before .before .before .before .before .before .before .before .before .before .before .before .before .before .before .before .before .before .before .before .evict-min-freq .ensures))
 
 same-length-51 : tie.Need-same-length-51
-same-length-51 c = c .before .before .before .before .before .before .before .before .before .before .before .before .before .before .before .before .before .before .before .reset-frequency .kept .0
+same-length-51 c = refl
 
 same-length-52 : tie.Need-same-length-52
-same-length-52 c = c .before .before .before .before .before .before .before .before .before .before .before .before .before .before .before .before .before .before .before .reset-frequency .kept .1 .0
+same-length-52 c = c .before .before .before .before .before .before .before .before .before .before .before .before .before .reset-frequency .kept .1 .0
 
 same-length-53 : tie.Need-same-length-53
-same-length-53 c = c .before .before .before .before .before .before .before .before .before .before .before .before .before .before .before .before .before .before .before .reset-frequency .kept .1 .1 .0
+same-length-53 c = c .before .before .before .before .before .before .before .before .before .before .before .before .before .reset-frequency .kept .1 .1 .0
 
 same-length-54 : tie.Need-same-length-54
-same-length-54 c = c .before .before .before .before .before .before .before .before .before .before .before .before .before .before .before .before .before .before .before .reset-frequency .kept .1 .1 .1 .0
+same-length-54 c = c .before .before .before .before .before .before .before .before .before .before .before .before .before .reset-frequency .kept .1 .1 .1 .0
 
 same-length-55 : tie.Need-same-length-55
-same-length-55 c = c .before .before .before .before .before .before .before .before .before .before .before .before .before .before .before .before .before .before .before .reset-frequency .kept .1 .1 .1 .1 .0
+same-length-55 c = c .before .before .before .before .before .before .before .before .before .before .before .before .before .reset-frequency .kept .1 .1 .1 .1 .0
 
 same-length-56 : tie.Need-same-length-56
-same-length-56 c = c .before .before .before .before .before .before .before .before .before .before .before .before .before .before .before .before .before .before .before .reset-frequency .kept .1 .1 .1 .1 .1 .0
+same-length-56 c = refl
 
 same-length-57 : tie.Need-same-length-57
-same-length-57 c = c .before .before .before .before .before .before .before .before .before .before .before .before .before .before .before .before .before .before .before .reset-frequency .kept .1 .1 .1 .1 .1 .1 .0
+same-length-57 c = refl
 
 same-length-58 : tie.Need-same-length-58
-same-length-58 c = c .before .before .before .before .before .before .before .before .before .before .before .before .before .before .before .before .before .before .before .reset-frequency .kept .1 .1 .1 .1 .1 .1 .1 .0
+same-length-58 c = c .before .before .before .before .before .before .before .before .before .before .before .before .before .reset-frequency .kept .1 .1 .1 .1 .1 .1 .1 .0
 
 same-length-59 : tie.Need-same-length-59
-same-length-59 c = c .before .before .before .before .before .before .before .before .before .before .before .before .before .before .before .before .before .before .before .reset-frequency .kept .1 .1 .1 .1 .1 .1 .1 .1 .0
+same-length-59 c = c .before .before .before .before .before .before .before .before .before .before .before .before .before .reset-frequency .kept .1 .1 .1 .1 .1 .1 .1 .1 .0
 
 same-length-60 : tie.Need-same-length-60
 same-length-60 c = refl
 
 returns-6 : tie.Need-returns-6
-returns-6 c = acted _ _ _ _ _ _ 47 (c .before .before .before .before .before .before .before .before .before .before .before .before .before .before .before .before .before .before .before .before .before .before .before .before .before .before .before .before .before .before .match .keys6) _ _ (called _ _ _ _ _ _ (c .leveled .ensures .1) (Reset _) _ (c .leveled .ensures .0) (c .before .before .before .before .before .before .before .before .before .before .before .before .before .before .before .before .before .before .before .reset-frequency .ensures))
+returns-6 c = acted _ _ _ _ _ _ 47 (c .before .before .before .before .before .before .before .before .before .before .before .before .before .before .before .before .before .before .before .before .before .before .before .before .match .keys6) _ _ (called _ _ _ _ _ _ (c .leveled .ensures .1) (Reset _) _ (c .leveled .ensures .0) (c .before .before .before .before .before .before .before .before .before .before .before .before .before .reset-frequency .ensures))
 
 same-length-61 : tie.Need-same-length-61
 same-length-61 c = refl

@@ -13,37 +13,37 @@ is-done-requires : tie.Need-is-done-requires
 is-done-requires c κs = search needs
 
 reset-frequency-requires : tie.Need-reset-frequency-requires
-reset-frequency-requires c κs = base-sound _ _ (public.checked _ _ _ _ (c .before .before .before .before .before .before .before .before .before .before .before .refusal .ensures) (c .before .before .before .before .before .before .before .before .before .before .is-done .ensures) (c .before .before .before .before .before .before .before .before .before .if1 .taken))
+reset-frequency-requires c κs = (_, base-sound _ _ (public.checked _ _ _ _ (c .before .before .before .before .before .before .before .before .refusal .ensures) (c .before .before .before .before .before .before .before .is-done .ensures) (c .before .before .before .before .before .before .if1 .taken)))
 
 same-length : tie.Need-same-length
-same-length c = c .before .before .before .before .before .before .before .before .before .before .before .before .before .before .before .before .before .before .reset-frequency .kept .0
+same-length c = c .before .before .before .before .before .before .before .before .before .before .before .before .reset-frequency .kept .1 .0
 
 same-length-2 : tie.Need-same-length-2
-same-length-2 c = c .before .before .before .before .before .before .before .before .before .before .before .before .before .before .before .before .before .before .reset-frequency .kept .1 .0
+same-length-2 c = c .before .before .before .before .before .before .before .before .before .before .before .before .reset-frequency .kept .1 .1 .0
 
 same-length-3 : tie.Need-same-length-3
-same-length-3 c = c .before .before .before .before .before .before .before .before .before .before .before .before .before .before .before .before .before .before .reset-frequency .kept .1 .1 .0
+same-length-3 c = c .before .before .before .before .before .before .before .before .before .before .before .before .reset-frequency .kept .1 .1 .1 .0
 
 same-length-4 : tie.Need-same-length-4
-same-length-4 c = c .before .before .before .before .before .before .before .before .before .before .before .before .before .before .before .before .before .before .reset-frequency .kept .1 .1 .1 .0
+same-length-4 c = c .before .before .before .before .before .before .before .before .before .before .before .before .reset-frequency .kept .1 .1 .1 .1 .0
 
 same-length-5 : tie.Need-same-length-5
-same-length-5 c = c .before .before .before .before .before .before .before .before .before .before .before .before .before .before .before .before .before .before .reset-frequency .kept .1 .1 .1 .1 .0
+same-length-5 c = c .before .before .before .before .before .before .before .before .before .before .before .before .reset-frequency .kept .1 .1 .1 .1 .1 .1 .0
 
 same-length-6 : tie.Need-same-length-6
-same-length-6 c = c .before .before .before .before .before .before .before .before .before .before .before .before .before .before .before .before .before .before .reset-frequency .kept .1 .1 .1 .1 .1 .0
-
-same-length-7 : tie.Need-same-length-7
-same-length-7 c = c .before .before .before .before .before .before .before .before .before .before .before .before .before .before .before .before .before .before .reset-frequency .kept .1 .1 .1 .1 .1 .1 .0
-
-same-length-8 : tie.Need-same-length-8
-same-length-8 c = c .before .before .before .before .before .before .before .before .before .before .before .before .before .before .before .before .before .before .reset-frequency .kept .1 .1 .1 .1 .1 .1 .1 .0
-
-same-length-9 : tie.Need-same-length-9
-same-length-9 c = c .before .before .before .before .before .before .before .before .before .before .before .before .before .before .before .before .before .before .reset-frequency .kept .1 .1 .1 .1 .1 .1 .1 .1 .0
+same-length-6 c = c .before .before .before .before .before .before .before .before .before .before .before .before .reset-frequency .kept .1 .1 .1 .1 .1 .1 .1 .0
 
 returns : tie.Need-returns
-returns c = public.does _ _ _ _ (c .before .before .before .before .before .before .before .before .before .before .before .before .before .before .before .before .before .before .before .before .before .before .before .before .before .before .before .before .before .before .refusal .ensures) (c .before .before .before .before .before .before .before .before .before .before .before .before .before .before .before .before .before .before .before .before .before .before .before .before .before .before .before .before .before .is-done .ensures) _ _ _ _ (c .before .before .before .before .before .before .before .before .before .before .before .before .before .before .before .before .before .before .before .before .before .before .before .before .before .before .before .before .if1 .taken) (c .before .before .before .before .before .before .before .before .before .before .before .before .before .before .before .before .before .before .reset-frequency .ensures _)
+returns c = public.does _ _ _ _ (c .before .before .before .before .before .before .before .before .before .before .before .before .before .before .before .before .before .before .before .before .before .refusal .ensures) (c .before .before .before .before .before .before .before .before .before .before .before .before .before .before .before .before .before .before .before .before .is-done .ensures) _ _ _ _ (c .before .before .before .before .before .before .before .before .before .before .before .before .before .before .before .before .before .before .before .if1 .taken) (c .before .before .before .before .before .before .before .before .before .before .before .before .reset-frequency .ensures _ _)
+
+same-length-7 : tie.Need-same-length-7
+same-length-7 c = refl
+
+same-length-8 : tie.Need-same-length-8
+same-length-8 c = refl
+
+same-length-9 : tie.Need-same-length-9
+same-length-9 c = refl
 
 same-length-10 : tie.Need-same-length-10
 same-length-10 c = refl
@@ -53,24 +53,6 @@ same-length-11 c = refl
 
 same-length-12 : tie.Need-same-length-12
 same-length-12 c = refl
-
-same-length-13 : tie.Need-same-length-13
-same-length-13 c = refl
-
-same-length-14 : tie.Need-same-length-14
-same-length-14 c = refl
-
-same-length-15 : tie.Need-same-length-15
-same-length-15 c = refl
-
-same-length-16 : tie.Need-same-length-16
-same-length-16 c = refl
-
-same-length-17 : tie.Need-same-length-17
-same-length-17 c = refl
-
-same-length-18 : tie.Need-same-length-18
-same-length-18 c = refl
 
 returns-2 : tie.Need-returns-2
 returns-2 c = public.refuses _ _ _ _ (c .before .before .refusal .ensures) (c .before .is-done .ensures) _ _ (c .if1 .left) refl
@@ -88,17 +70,11 @@ reset-frequency-spec =
     same-length-4
     same-length-5
     same-length-6
+    returns
     same-length-7
     same-length-8
     same-length-9
-    returns
     same-length-10
     same-length-11
     same-length-12
-    same-length-13
-    same-length-14
-    same-length-15
-    same-length-16
-    same-length-17
-    same-length-18
     returns-2)

@@ -4,8 +4,7 @@ ghost use lib.ListN.{length};
 ghost use Rattle.ledger.specs.History.{Insert, Remove, Evict};
 ghost use Rattle.promise.specs.Promise.{Sound};
 ghost use Rattle.key_index.specs.Index.{IndexSound};
-ghost use Rattle.buckets_tables.specs.Slices as nine;
-ghost use Rattle.buckets_tables.specs.Lent as kind;
+ghost use Rattle.buckets_calls.specs.Calls.{Touchable};
 ghost use Rattle.cache_tables.specs.Slices.{lent, before, after};
 ghost use Rattle.cache_tables.specs.Lent.{cache};
 ghost use Rattle.cache_calls.specs.Calls.{Gettable, CachePeekable};
@@ -232,21 +231,18 @@ pub(crate) fn evict(
 
 // 6: a key starts again.
 pub(crate) fn reset(
-    keys: &mut [u64],
+    keys: &[u64],
     freqs: &mut [u64],
     epochs: &mut [u64],
     prevs: &mut [u64],
     nexts: &mut [u64],
-    arena: &mut [u64],
-    index: &mut [u64],
+    index: &[u64],
     buckets: &mut [u64],
     spares: &mut [u64],
     ask: Ask,
 ) -> Told
-    requires { ⌜ Sound kind.buckets (nine.lent keys freqs epochs prevs nexts arena index buckets spares) (ask .state) ⌝ }
-    ensures { λ r. ⌜ OfReset (ask .key .0)
-        (nine.before keys freqs epochs prevs nexts arena index buckets spares) (ask .state)
-        (nine.after keys freqs epochs prevs nexts arena index buckets spares) r ⌝ }
+    requires { ⌜ Touchable keys freqs epochs prevs nexts index buckets spares (ask .state) ⌝ }
+    ensures { λ r. ⌜ OfReset (ask .key .0) keys freqs epochs prevs nexts index buckets spares (ask .state) r ⌝ }
 {
     let state = ask.state;
     let key = ask.key;
@@ -256,7 +252,6 @@ pub(crate) fn reset(
         epochs,
         prevs,
         nexts,
-        arena,
         index,
         buckets,
         spares,

@@ -41,8 +41,8 @@ same-length-6 c = search needs
 returns : tie.Need-returns
 returns c =
     let touched = c .before .before .before .before .before .before .before .before .before .before .before .before .before .before .before .touch in
-    asked.hit-so _ _ _ _ _ _ _ _ _ _ _ _ _ _ _ _ _ _ (λ k a i. touched .ensures) refl (c .before .lowest-frequency .ensures) (c .recounted .ensures)
-    (touched .kept .0) (touched .kept .1 .0) (touched .kept .1 .1 .0) (touched .kept .1 .1 .1 .0) (touched .kept .1 .1 .1 .1 .0)
+    asked.hit-so _ _ _ _ _ _ _ _ _ _ _ _ _ _ _ _ _ refl (c .before .lowest-frequency .ensures) (c .recounted .ensures)
+    (touched .kept .0) (touched .kept .1 .0) (touched .kept .1 .1 .0) (touched .kept .1 .1 .1 .0) (touched .kept .1 .1 .1 .1 .0) _ _ (touched .ensures)
 
 pub hit-spec : {M : Type 1} → statement M
 hit-spec =

@@ -23,7 +23,7 @@ slice-read-t24 : tie.Need-slice-read-t24
 slice-read-t24 c = asked.slot-sized _ _ _ (asking.sought-bound _ _ _ _ (caching.sought-least _ _ _ (λ l h. c .before .before .before .lowest .ensures .answer _ _ _ _ _ (h .lists)) (c .before .if1 .left)) (c .before .before .before .before .before .before .before .before .before .before .before .before .before .before .pre .unbound .sound)) .0
 
 replace-requires : tie.Need-replace-requires
-replace-requires c κs = asking.out-replaceable _ _ _ _ (c .before .before .before .before .before .before .before .before .before .before .before .before .before .before .before .before .before .before .before .before .before .before .before .pre .unbound .sound) (c .before .before .before .before .before .before .before .before .before .before .before .before .before .before .before .before .before .before .before .before .before .before .before .pre .unbound .missed) (caching.sought-least _ _ _ (λ l h. c .before .before .before .before .before .before .before .before .before .before .before .before .lowest .ensures .answer _ _ _ _ _ (h .lists)) (c .before .before .before .before .before .before .before .before .before .before .if1 .left))
+replace-requires c κs = asking.out-replaceable _ _ _ _ (c .before .before .before .before .before .before .before .before .before .before .before .before .before .before .before .before .before .before .before .before .before .before .before .pre .unbound .sound) (c .before .before .before .before .before .before .before .before .before .before .before .before .before .before .before .before .before .before .before .before .before .before .before .pre .unbound .missed) (c .before .before .before .before .before .before .before .before .before .before .before .before .before .before .before .before .before .before .before .before .before .before .before .pre .full) (caching.sought-least _ _ _ (λ l h. c .before .before .before .before .before .before .before .before .before .before .before .before .lowest .ensures .answer _ _ _ _ _ (h .lists)) (c .before .before .before .before .before .before .before .before .before .before .if1 .left))
 
 same-length-2 : tie.Need-same-length-2
 same-length-2 c = c .before .before .before .before .before .before .before .before .before .before .before .before .before .before .before .before .before .before .replace .kept .0

@@ -12,11 +12,11 @@ use Rattle.slot_arena.proofs.sound.fill.Statement.{statement}
 use Rattle.slot_arena.proofs.sound.fill.Tie as tie
 
 abbrev Inv-loop : tie.InvT-loop
-Inv-loop arena₀ used capacity i₀ arena i =
-    (i ≤ length arena) × (length arena ≡ length arena₀) × (capacity ≡ length arena₀) × ((k : ℕ) → k < i → getD arena k 0 ≡ filledCell used capacity k)
+Inv-loop arena₀ capacity i₀ arena i =
+    (i ≤ length arena) × (length arena ≡ length arena₀) × (capacity ≡ length arena₀) × ((k : ℕ) → k < i → getD arena k 0 ≡ filledCell capacity k)
 
 abbrev μ-loop : tie.MeasureT-loop
-μ-loop arena₀ used capacity i₀ arena i = length arena - i
+μ-loop arena₀ capacity i₀ arena i = length arena - i
 
 loop-holds : tie.Need-loop-holds Inv-loop μ-loop
 loop-holds c = (omega arith, refl, refl, below-none _)
@@ -43,8 +43,8 @@ loop-again c =
     let inv = c .before .before .loop .inv in
     (simp length-set (omega arith), simp length-set (inv .1), inv .2, stored-more _ t i _ (omega arith) (c .filled-cell .ensures) (inv .3))
 
-sub-t12 : tie.Need-sub-t12 Inv-loop μ-loop
-sub-t12 c = search needs
+sub-t11 : tie.Need-sub-t11 Inv-loop μ-loop
+sub-t11 c = search needs
 
 same-length : tie.Need-same-length Inv-loop μ-loop
 same-length c = search needs
@@ -53,7 +53,7 @@ returns : tie.Need-returns Inv-loop μ-loop
 returns c =
     let inv = c .before .before .loop .inv in
     let p = c .before .before .before .before .pre in
-    filled _ _ _ _ (p .0) (p .1) (inv .1) (λ k l. rw (sym (inv .2)) (inv .3 k (omega arith))) (λ b. (refl, omega arith)) (λ b. absurd (omega arith))
+    filled _ _ _ p (inv .1) (λ k l. rw (sym (inv .2)) (inv .3 k (omega arith))) (λ b. (refl, omega arith)) (λ b. absurd (omega arith))
 
 same-length-2 : tie.Need-same-length-2 Inv-loop μ-loop
 same-length-2 c = search needs
@@ -62,7 +62,7 @@ returns-2 : tie.Need-returns-2 Inv-loop μ-loop
 returns-2 c =
     let inv = c .before .before .loop .inv in
     let p = c .before .before .before .before .pre in
-    filled _ _ _ _ (p .0) (p .1) (inv .1) (λ k l. rw (sym (inv .2)) (inv .3 k (omega arith))) (λ b. absurd (omega arith)) (λ b. (refl, refl))
+    filled _ _ _ p (inv .1) (λ k l. rw (sym (inv .2)) (inv .3 k (omega arith))) (λ b. absurd (omega arith)) (λ b. (refl, refl))
 
 pub fill-spec : {M : Type 1} → statement M
 fill-spec =
@@ -77,7 +77,7 @@ fill-spec =
     add-i
     loop-less
     loop-again
-    sub-t12
+    sub-t11
     same-length
     returns
     same-length-2

@@ -23,7 +23,7 @@ least-requires : tie.Need-least-requires
 least-requires c κs = search needs
 
 reset-requires : tie.Need-reset-requires
-reset-requires c κs = asking.base-sound _ _ (c .before .before .before .before .before .before .before .before .before .before .before .before .before .before .before .before .before .before .before .before .pre)
+reset-requires c κs = (now (c .before .before .before .before .before .before .before .before .before .before .before .before .before .before .before .before .before .before .before .args .a), asking.base-sound _ _ (c .before .before .before .before .before .before .before .before .before .before .before .before .before .before .before .before .before .before .before .pre))
 
 clear-requires : tie.Need-clear-requires
 clear-requires c κs = (now (c .before .before .before .before .before .before .before .before .before .before .before .before .before .before .before .before .before .before .before .before .args .b), c .before .before .before .before .before .before .before .before .before .before .before .before .before .before .before .before .before .before .before .before .pre)
@@ -158,94 +158,91 @@ returns-5 : tie.Need-returns-5
 returns-5 c = acted _ _ _ _ _ _ _ _ 5 (c .before .before .before .before .match .keys5) (c .least .ensures _ _ _ _ _ _ _)
 
 same-length-36 : tie.Need-same-length-36
-same-length-36 c = c .before .before .before .before .before .before .before .before .before .before .before .before .before .before .before .before .before .before .reset .kept .0
+same-length-36 c = refl
 
 same-length-37 : tie.Need-same-length-37
-same-length-37 c = c .before .before .before .before .before .before .before .before .before .before .before .before .before .before .before .before .before .before .reset .kept .1 .0
+same-length-37 c = c .before .before .before .before .before .before .before .before .before .before .before .before .reset .kept .1 .0
 
 same-length-38 : tie.Need-same-length-38
-same-length-38 c = c .before .before .before .before .before .before .before .before .before .before .before .before .before .before .before .before .before .before .reset .kept .1 .1 .0
+same-length-38 c = c .before .before .before .before .before .before .before .before .before .before .before .before .reset .kept .1 .1 .0
 
 same-length-39 : tie.Need-same-length-39
-same-length-39 c = c .before .before .before .before .before .before .before .before .before .before .before .before .before .before .before .before .before .before .reset .kept .1 .1 .1 .0
+same-length-39 c = c .before .before .before .before .before .before .before .before .before .before .before .before .reset .kept .1 .1 .1 .0
 
 same-length-40 : tie.Need-same-length-40
-same-length-40 c = c .before .before .before .before .before .before .before .before .before .before .before .before .before .before .before .before .before .before .reset .kept .1 .1 .1 .1 .0
+same-length-40 c = c .before .before .before .before .before .before .before .before .before .before .before .before .reset .kept .1 .1 .1 .1 .0
 
 same-length-41 : tie.Need-same-length-41
-same-length-41 c = c .before .before .before .before .before .before .before .before .before .before .before .before .before .before .before .before .before .before .reset .kept .1 .1 .1 .1 .1 .0
+same-length-41 c = refl
 
 same-length-42 : tie.Need-same-length-42
-same-length-42 c = c .before .before .before .before .before .before .before .before .before .before .before .before .before .before .before .before .before .before .reset .kept .1 .1 .1 .1 .1 .1 .0
+same-length-42 c = c .before .before .before .before .before .before .before .before .before .before .before .before .reset .kept .1 .1 .1 .1 .1 .1 .0
 
 same-length-43 : tie.Need-same-length-43
-same-length-43 c = c .before .before .before .before .before .before .before .before .before .before .before .before .before .before .before .before .before .before .reset .kept .1 .1 .1 .1 .1 .1 .1 .0
-
-same-length-44 : tie.Need-same-length-44
-same-length-44 c = c .before .before .before .before .before .before .before .before .before .before .before .before .before .before .before .before .before .before .reset .kept .1 .1 .1 .1 .1 .1 .1 .1 .0
+same-length-43 c = c .before .before .before .before .before .before .before .before .before .before .before .before .reset .kept .1 .1 .1 .1 .1 .1 .1 .0
 
 returns-6 : tie.Need-returns-6
-returns-6 c = acted _ _ _ _ _ _ _ _ 6 (c .before .before .before .before .before .before .before .before .before .before .before .before .before .before .before .before .before .before .before .before .before .before .before .before .before .before .before .before .match .keys6) (c .before .before .before .before .before .before .before .before .before .before .before .before .before .before .before .before .before .before .reset .ensures _)
+returns-6 c = acted _ _ _ _ _ _ _ _ 6 (c .before .before .before .before .before .before .before .before .before .before .before .before .before .before .before .before .before .before .before .before .before .match .keys6) (c .before .before .before .before .before .before .before .before .before .before .before .before .reset .ensures _ _)
+
+same-length-44 : tie.Need-same-length-44
+same-length-44 c = c .before .before .before .before .before .before .before .before .before .before .before .before .before .before .before .before .before .before .clear .kept .0
 
 same-length-45 : tie.Need-same-length-45
-same-length-45 c = c .before .before .before .before .before .before .before .before .before .before .before .before .before .before .before .before .before .before .clear .kept .0
+same-length-45 c = c .before .before .before .before .before .before .before .before .before .before .before .before .before .before .before .before .before .before .clear .kept .1 .0
 
 same-length-46 : tie.Need-same-length-46
-same-length-46 c = c .before .before .before .before .before .before .before .before .before .before .before .before .before .before .before .before .before .before .clear .kept .1 .0
+same-length-46 c = c .before .before .before .before .before .before .before .before .before .before .before .before .before .before .before .before .before .before .clear .kept .1 .1 .0
 
 same-length-47 : tie.Need-same-length-47
-same-length-47 c = c .before .before .before .before .before .before .before .before .before .before .before .before .before .before .before .before .before .before .clear .kept .1 .1 .0
+same-length-47 c = c .before .before .before .before .before .before .before .before .before .before .before .before .before .before .before .before .before .before .clear .kept .1 .1 .1 .0
 
 same-length-48 : tie.Need-same-length-48
-same-length-48 c = c .before .before .before .before .before .before .before .before .before .before .before .before .before .before .before .before .before .before .clear .kept .1 .1 .1 .0
+same-length-48 c = c .before .before .before .before .before .before .before .before .before .before .before .before .before .before .before .before .before .before .clear .kept .1 .1 .1 .1 .0
 
 same-length-49 : tie.Need-same-length-49
-same-length-49 c = c .before .before .before .before .before .before .before .before .before .before .before .before .before .before .before .before .before .before .clear .kept .1 .1 .1 .1 .0
+same-length-49 c = c .before .before .before .before .before .before .before .before .before .before .before .before .before .before .before .before .before .before .clear .kept .1 .1 .1 .1 .1 .0
 
 same-length-50 : tie.Need-same-length-50
-same-length-50 c = c .before .before .before .before .before .before .before .before .before .before .before .before .before .before .before .before .before .before .clear .kept .1 .1 .1 .1 .1 .0
+same-length-50 c = c .before .before .before .before .before .before .before .before .before .before .before .before .before .before .before .before .before .before .clear .kept .1 .1 .1 .1 .1 .1 .0
 
 same-length-51 : tie.Need-same-length-51
-same-length-51 c = c .before .before .before .before .before .before .before .before .before .before .before .before .before .before .before .before .before .before .clear .kept .1 .1 .1 .1 .1 .1 .0
+same-length-51 c = c .before .before .before .before .before .before .before .before .before .before .before .before .before .before .before .before .before .before .clear .kept .1 .1 .1 .1 .1 .1 .1 .0
 
 same-length-52 : tie.Need-same-length-52
-same-length-52 c = c .before .before .before .before .before .before .before .before .before .before .before .before .before .before .before .before .before .before .clear .kept .1 .1 .1 .1 .1 .1 .1 .0
-
-same-length-53 : tie.Need-same-length-53
-same-length-53 c = c .before .before .before .before .before .before .before .before .before .before .before .before .before .before .before .before .before .before .clear .kept .1 .1 .1 .1 .1 .1 .1 .1 .0
+same-length-52 c = c .before .before .before .before .before .before .before .before .before .before .before .before .before .before .before .before .before .before .clear .kept .1 .1 .1 .1 .1 .1 .1 .1 .0
 
 returns-7 : tie.Need-returns-7
 returns-7 c = acted _ _ _ _ _ _ _ _ 7 (c .before .before .before .before .before .before .before .before .before .before .before .before .before .before .before .before .before .before .before .before .before .before .before .before .before .before .before .before .match .keys7) (c .before .before .before .before .before .before .before .before .before .before .before .before .before .before .before .before .before .before .clear .ensures _)
 
+same-length-53 : tie.Need-same-length-53
+same-length-53 c = c .before .before .before .before .before .before .before .before .before .before .before .before .before .before .before .before .before .before .before .before .evict .kept .0
+
 same-length-54 : tie.Need-same-length-54
-same-length-54 c = c .before .before .before .before .before .before .before .before .before .before .before .before .before .before .before .before .before .before .before .before .evict .kept .0
+same-length-54 c = c .before .before .before .before .before .before .before .before .before .before .before .before .before .before .before .before .before .before .before .before .evict .kept .1 .0
 
 same-length-55 : tie.Need-same-length-55
-same-length-55 c = c .before .before .before .before .before .before .before .before .before .before .before .before .before .before .before .before .before .before .before .before .evict .kept .1 .0
+same-length-55 c = c .before .before .before .before .before .before .before .before .before .before .before .before .before .before .before .before .before .before .before .before .evict .kept .1 .1 .0
 
 same-length-56 : tie.Need-same-length-56
-same-length-56 c = c .before .before .before .before .before .before .before .before .before .before .before .before .before .before .before .before .before .before .before .before .evict .kept .1 .1 .0
+same-length-56 c = c .before .before .before .before .before .before .before .before .before .before .before .before .before .before .before .before .before .before .before .before .evict .kept .1 .1 .1 .0
 
 same-length-57 : tie.Need-same-length-57
-same-length-57 c = c .before .before .before .before .before .before .before .before .before .before .before .before .before .before .before .before .before .before .before .before .evict .kept .1 .1 .1 .0
+same-length-57 c = c .before .before .before .before .before .before .before .before .before .before .before .before .before .before .before .before .before .before .before .before .evict .kept .1 .1 .1 .1 .0
 
 same-length-58 : tie.Need-same-length-58
-same-length-58 c = c .before .before .before .before .before .before .before .before .before .before .before .before .before .before .before .before .before .before .before .before .evict .kept .1 .1 .1 .1 .0
+same-length-58 c = c .before .before .before .before .before .before .before .before .before .before .before .before .before .before .before .before .before .before .before .before .evict .kept .1 .1 .1 .1 .1 .0
 
 same-length-59 : tie.Need-same-length-59
-same-length-59 c = c .before .before .before .before .before .before .before .before .before .before .before .before .before .before .before .before .before .before .before .before .evict .kept .1 .1 .1 .1 .1 .0
+same-length-59 c = c .before .before .before .before .before .before .before .before .before .before .before .before .before .before .before .before .before .before .before .before .evict .kept .1 .1 .1 .1 .1 .1 .0
 
 same-length-60 : tie.Need-same-length-60
-same-length-60 c = c .before .before .before .before .before .before .before .before .before .before .before .before .before .before .before .before .before .before .before .before .evict .kept .1 .1 .1 .1 .1 .1 .0
+same-length-60 c = c .before .before .before .before .before .before .before .before .before .before .before .before .before .before .before .before .before .before .before .before .evict .kept .1 .1 .1 .1 .1 .1 .1 .0
 
 same-length-61 : tie.Need-same-length-61
-same-length-61 c = c .before .before .before .before .before .before .before .before .before .before .before .before .before .before .before .before .before .before .before .before .evict .kept .1 .1 .1 .1 .1 .1 .1 .0
+same-length-61 c = c .before .before .before .before .before .before .before .before .before .before .before .before .before .before .before .before .before .before .before .before .evict .kept .1 .1 .1 .1 .1 .1 .1 .1 .0
 
 same-length-62 : tie.Need-same-length-62
-same-length-62 c = c .before .before .before .before .before .before .before .before .before .before .before .before .before .before .before .before .before .before .before .before .evict .kept .1 .1 .1 .1 .1 .1 .1 .1 .0
-
-same-length-63 : tie.Need-same-length-63
-same-length-63 c = c .before .before .before .before .before .before .before .before .before .before .before .before .before .before .before .before .before .before .before .before .evict .kept .1 .1 .1 .1 .1 .1 .1 .1 .1 .0
+same-length-62 c = c .before .before .before .before .before .before .before .before .before .before .before .before .before .before .before .before .before .before .before .before .evict .kept .1 .1 .1 .1 .1 .1 .1 .1 .1 .0
 
 returns-8 : tie.Need-returns-8
 returns-8 c = acted _ _ _ _ _ _ _ _ 8 (c .before .before .before .before .before .before .before .before .before .before .before .before .before .before .before .before .before .before .before .before .before .before .before .before .before .before .before .before .before .before .before .match .keys8) (c .before .before .before .before .before .before .before .before .before .before .before .before .before .before .before .before .before .before .before .before .evict .ensures)
@@ -318,8 +315,8 @@ act-spec =
     same-length-41
     same-length-42
     same-length-43
-    same-length-44
     returns-6
+    same-length-44
     same-length-45
     same-length-46
     same-length-47
@@ -328,8 +325,8 @@ act-spec =
     same-length-50
     same-length-51
     same-length-52
-    same-length-53
     returns-7
+    same-length-53
     same-length-54
     same-length-55
     same-length-56
@@ -339,7 +336,6 @@ act-spec =
     same-length-60
     same-length-61
     same-length-62
-    same-length-63
     returns-8
     returns-9
     returns-10)
