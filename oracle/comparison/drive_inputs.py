@@ -12,11 +12,12 @@ from comparison.records import TOP, Input
 (INSERT, TOUCH, TOUCH_CAPPED, REMOVE, POP_MIN, PEEK_MIN, MIN_FREQ, FREQUENCY, ENTRY_EPOCH, SET_ENTRY_EPOCH,
  CURRENT_EPOCH, SET_EPOCH, ADVANCE_EPOCH, LEN, IS_EMPTY, CONTAINS, DECAY_HALVE, REBASE_MIN_FREQ, CLEAR, WALK,
  CHECK, DECAY_HALVE_TIMES) = range(1, 23)
+BUCKET_LEN, LEN_UP_TO = 24, 25
 INSERT_BATCH, TOUCH_BATCH, REMOVE_BATCH, CACHE_INSERT_BATCH, CACHE_REMOVE_BATCH, CACHE_TOUCH_BATCH = range(60, 66)
 (CACHE_INSERT, CACHE_GET, CACHE_PEEK, CACHE_REMOVE, CACHE_CLEAR, CACHE_PEEK_LFU, CACHE_EVICT, CACHE_RESET,
  CACHE_LEN) = range(40, 49)
 BATCHES = range(60, 66)
-BAD_OPERATIONS = (0, *range(23, 30), *range(32, 40), *range(50, 60), *range(67, 256))
+BAD_OPERATIONS = (0, 23, *range(26, 30), *range(32, 40), *range(50, 60), *range(67, 256))
 LARGEST_CAPACITY = LONGEST_BATCH = 4096
 
 # A capacity and how often it comes up in random runs. 4,097 and more are refused.
@@ -29,7 +30,7 @@ BUCKET_SHOW = [(WALK, frequency, 0) for frequency in range(SHOWN_FREQUENCIES + 1
 CACHE_SHOW = [(WALK, frequency, 0) for frequency in range(SHOWN_FREQUENCIES + 1)] + [(CACHE_LEN, 0, 0)]
 
 BUCKET_QUESTIONS = {PEEK_MIN: 3, MIN_FREQ: 3, FREQUENCY: 3, ENTRY_EPOCH: 3, CURRENT_EPOCH: 1, LEN: 1, IS_EMPTY: 1,
-                    CONTAINS: 2, WALK: 6, CHECK: 2, "bad": 0.5, "show": 1}
+                    CONTAINS: 2, WALK: 6, CHECK: 2, BUCKET_LEN: 2, LEN_UP_TO: 2, "bad": 0.5, "show": 1}
 BUCKET_EVEN_RUN = BUCKET_QUESTIONS | {
     INSERT: 22, TOUCH: 20, TOUCH_CAPPED: 10, REMOVE: 8, POP_MIN: 5, SET_ENTRY_EPOCH: 3, SET_EPOCH: 1, ADVANCE_EPOCH: 3,
     DECAY_HALVE: 1, DECAY_HALVE_TIMES: 1, REBASE_MIN_FREQ: 1, CLEAR: 0.2, INSERT_BATCH: 2, TOUCH_BATCH: 2, REMOVE_BATCH: 1}
@@ -148,7 +149,7 @@ def random_run(rng, capacity, count, weights, show):
 def random_record(rng, operation, pool):
     if operation == "bad":
         return rng.choice(BAD_OPERATIONS), some_number(rng), some_number(rng)
-    if operation == WALK:
+    if operation in (WALK, BUCKET_LEN, LEN_UP_TO):
         return operation, rng.choice((rng.randrange(1, 4), rng.randrange(40), some_number(rng))), some_number(rng)
     if operation == TOUCH_CAPPED:
         return operation, some_key(rng, pool), rng.choice((0, 1, 2, 3, 4, 8, TOP))

@@ -17,6 +17,7 @@ BUCKET_CALLS = {
     10: ("set_entry_epoch", 2), 11: ("current_epoch", 0), 12: ("set_epoch", 1), 13: ("advance_epoch", 0),
     14: ("len", 0), 15: ("is_empty", 0), 16: ("contains", 1), 17: ("decay_halve", 0),
     18: ("rebase_min_freq", 0), 19: ("clear", 0), 20: ("walk", 1), 21: ("check", 0), 22: ("decay_halve_times", 1),
+    24: ("bucket_len", 1), 25: ("len_up_to", 1),
     60: ("insert_batch", 2), 61: ("touch_batch", 2), 62: ("remove_batch", 2),
 }
 CACHE_CALLS = {

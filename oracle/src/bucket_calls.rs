@@ -1,4 +1,4 @@
-//! `drive`'s bucket calls, 1 to 22 and 60 to 62, on the original's frequency buckets.
+//! `drive`'s bucket calls, 1 to 22, 24, 25 and 60 to 62, on the original's frequency buckets.
 //!
 //! The original grows without bound. Document 01's fixed capacity is kept here, at the only calls that it concerns: an
 //! insert of an absent key with no free slot is FULL and never reaches the original. Slots are followed by document 02's rule.
@@ -27,7 +27,7 @@ impl BoundedBuckets {
         match record.operation {
             1..=5 | 13 => self.change(record),
             10 | 12 | 17..=19 | 22 => self.silent_change(record),
-            6..=9 | 11 | 14..=16 | 20 | 21 => self.question(record),
+            6..=9 | 11 | 14..=16 | 20 | 21 | 24 | 25 => self.question(record),
             60..=62 => self.batch(record),
             30 | 31 | 40..=49 | 63..=66 => SKIP.to_string(),
             _ => BAD.to_string(),
@@ -80,6 +80,8 @@ impl BoundedBuckets {
             15 => yes_or_no(buckets.is_empty()),
             16 => yes_or_no(buckets.contains(&key)),
             20 => self.walk(record.first),
+            24 => done(&[buckets.iter_bucket_entries(record.first).count() as u64]),
+            25 => done(&[buckets.iter().filter(|(_, entry)| entry.freq <= record.first).count() as u64]),
             _ => {
                 // The original has its check in builds with debug assertions only.
                 #[cfg(debug_assertions)]

@@ -33,7 +33,7 @@ impl JudgedCache {
             }
             63..=65 => self.batch(record),
             2 | 8 | 14..=16 | 20 => self.passed_on(record),
-            1..=22 | 30 | 31 | 49 | 60..=62 | 66 => SKIP.to_string(),
+            1..=22 | 24 | 25 | 30 | 31 | 49 | 60..=62 | 66 => SKIP.to_string(),
             _ => BAD.to_string(),
         }
     }

@@ -134,7 +134,7 @@ module _ (b sp : List ℕ) (s : Buckets) (used number at low left : ℕ) (w : Cl
               many = omega (arith, others-counted sp (s .spare .first) (so .0) (free .limit) (free .chain) (free .others));
               marks = rw en (w .marks);
             };
-            each = all-images (rowOf b) (Written b) (w .passed) (all-any (λ r. Written b (rowOf b r)) (λ r. record { freq-is = refl; head-is = refl; tail-is = refl }) (w .passed));
+            each = all-images (rowOf b) (Written b) (w .passed) (all-any (λ r. Written b (rowOf b r)) (λ r. record { freq-is = refl; head-is = refl; tail-is = refl; count-is = refl }) (w .passed));
             rising = rw append-nil at (w .rises [] tt);
           },
         );

@@ -10,7 +10,7 @@ use Rattle.bucket_table.specs.Records.{up, down, Row, row, rowOf, nums, 
 use Rattle.bucket_table.proofs.Rows.{clear}
 
 pub row-is : (b : List ℕ) (w : Row) → Written b w → w ≡ rowOf b (w .num)
-row-is b w h = λ i. row (w .num) (sym (h .freq-is) i) (record { head = sym (h .head-is) i; tail = sym (h .tail-is) i })
+row-is b w h = λ i. row (w .num) (sym (h .freq-is) i) (record { head = sym (h .head-is) i; tail = sym (h .tail-is) i; count = sym (h .count-is) i })
 
 pub rows-of : (b : List ℕ) (ws : List Row) → All (Written b) ws → ws ≡ map (rowOf b) (nums ws)
 rows-of b [] h = refl

@@ -17,7 +17,7 @@ use Rattle.slot_arena.specs.declared.Order.{Order}
 use Rattle.slot_arena.specs.declared.Taken.{Taken}
 use Rattle.slot_arena.proofs.Uses.{uses-take, uses-release, uses-filled}
 use Rattle.bucket_table.specs.declared.Buckets.{Buckets}
-use Rattle.bucket_table.specs.Records.{WORDS, word, frequency, lower, higher, head, tail, up, down, Spot, Row, row, empty, nums, Written, RecordsHold, RowsRise}
+use Rattle.bucket_table.specs.Records.{WORDS, word, frequency, lower, higher, head, tail, count, up, down, Spot, Row, row, empty, nums, Written, RecordsHold, RowsRise}
 use Rattle.bucket_table.specs.Calls.{Stored, Linked, SetEnds, SetOwner, Raises, Making, Drops, MakesRecord, RecordsReset, RecordsFilled}
 use Rattle.bucket_table.proofs.Rows.{nums-append, all-nums, rising-around, rising-out, rising-in, clear, spots, ring-parts, above-spot, row-some, row-once, rows-others, row-written, others-written}
 
@@ -25,16 +25,23 @@ use Rattle.bucket_table.proofs.Rows.{nums-append, all-nums, rising-arou
 at : (f g : ℕ → ℕ) (k : ℕ) → f ≡ g → f k ≡ g k
 at f g k e = ap (λ (h : ℕ → ℕ). h k) e
 
--- a row whose words are as they were
-still : (b b' : List ℕ) (w : Row) → frequency b' (w .num) ≡ frequency b (w .num) → head b' (w .num) ≡ head b (w .num) → tail b' (w .num) ≡ tail b (w .num)
-    → Written b w → Written b' w
-still b b' w f h t m = record { freq-is = f ∙ m .freq-is; head-is = h ∙ m .head-is; tail-is = t ∙ m .tail-is }
+-- record k says the same in both
+abbrev Same : List ℕ → List ℕ → ℕ → Type 0
+Same b b' k = (frequency b' k ≡ frequency b k) × (head b' k ≡ head b k) × (tail b' k ≡ tail b k) × (count b' k ≡ count b k)
+
+-- so all records do if only links and owners change
+same-words : (b b' : List ℕ) → ((u : ℕ) → (u < WORDS) × (u ≢ 1) × (u ≢ 2) × (u ≢ 6) → word u b' ≡ word u b) → (k : ℕ) → Same b b' k
+same-words b b' e k = (at _ _ k (e 0 (omega arith)), at _ _ k (e 3 (omega arith)), at _ _ k (e 4 (omega arith)), at _ _ k (e 5 (omega arith)))
+
+-- a row whose record says the same
+still : (b b' : List ℕ) (w : Row) → Same b b' (w .num) → Written b w → Written b' w
+still b b' w s m = record { freq-is = s .0 ∙ m .freq-is; head-is = s .1 ∙ m .head-is; tail-is = s .2 ∙ m .tail-is; count-is = s .3 ∙ m .count-is }
 
 -- ---- a row that changes in its place
 
 module _ (b b' sp : List ℕ) (s : Buckets) (us : List Row) (r f : ℕ) (d : Ends) (vs : List Row) (h : RecordsHold b sp s (us ++ row r f d ∷ vs)) where
   rewritten : (g : ℕ) (e : Ends) → length b' ≡ length b → lower b' ≡ lower b → higher b' ≡ higher b
-      → ((k : ℕ) → k ≢ r → (frequency b' k ≡ frequency b k) × (head b' k ≡ head b k) × (tail b' k ≡ tail b k))
+      → ((k : ℕ) → k ≢ r → Same b b' k)
       → Written b' (row r g e) → RowsRise 0 (us ++ row r g e ∷ vs) → RecordsHold b' sp s (us ++ row r g e ∷ vs)
   rewritten g e z lo hi kept mine rising =
       let en : nums (us ++ row r g e ∷ vs) ≡ nums (us ++ row r f d ∷ vs) = nums-append us (row r g e ∷ vs) ∙ sym (nums-append us (row r f d ∷ vs)) in
@@ -45,38 +52,55 @@ module _ (b b' sp : List ℕ) (s : Buckets) (us : List Row) (r f : ℕ) (d : End
         each =
             all-put (Written b') us (row r g e) vs mine
             (all-both (λ w. w .num ≢ r) (Written b) (Written b')
-            (λ w ne m. let k = kept (w .num) ne in still b b' w (k .0) (k .1) (k .2) m) (us ++ vs)
+            (λ w ne m. still b b' w (kept (w .num) ne) m) (us ++ vs)
             (rows-others b sp s us (row r f d) vs h) (others-written b sp s us (row r f d) vs h));
         rising = rising;
       }
 
-pub ends-set : (b : List ℕ) (r : ℕ) (e : Ends) (b₁ b' : List ℕ) → Stored 3 b r (e .head) b₁ → Stored 4 b₁ r (e .tail) b' → SetEnds b r e b'
-ends-set b r e b₁ b' s₃ s₄ = record {
-  size = s₄ .size ∙ s₃ .size;
-  owners = same 5 (omega arith);
+pub ends-set : (b : List ℕ) (r : ℕ) (e : Ends) (b₁ b₂ b' : List ℕ)
+    → Stored 3 b r (e .head) b₁ → Stored 4 b₁ r (e .tail) b₂ → Stored 5 b₂ r (e .count) b' → SetEnds b r e b'
+ends-set b r e b₁ b₂ b' s₃ s₄ s₅ = record {
+  size = size;
+  heads = heads;
+  tails = tails;
+  counts = counts;
+  rest = same;
+  owners = same 6 (omega arith);
   rows = λ sp s us f d vs h.
       let m = row-written b sp s us (row r f d) vs h in
       let ri = rising-around 0 us (row r f d) vs (h .rising) in
-      rewritten b b' sp s us r f d vs h f e (s₄ .size ∙ s₃ .size) (same 1 (omega arith)) (same 2 (omega arith))
-      (λ k ne. (at _ _ k (same 0 (omega arith)), at _ _ k heads ∙ upd-other (head b) r (e .head) k ne, at _ _ k tails ∙ upd-other (tail b) r (e .tail) k ne))
+      rewritten b b' sp s us r f d vs h f e size (same 1 (omega arith)) (same 2 (omega arith))
+      (λ k ne. (
+        at _ _ k (same 0 (omega arith)),
+        at _ _ k heads ∙ upd-other (head b) r (e .head) k ne,
+        at _ _ k tails ∙ upd-other (tail b) r (e .tail) k ne,
+        at _ _ k counts ∙ upd-other (count b) r (e .count) k ne,
+      ))
       (record {
         freq-is = at _ _ r (same 0 (omega arith)) ∙ m .freq-is;
         head-is = at _ _ r heads ∙ upd-same (head b) r (e .head);
         tail-is = at _ _ r tails ∙ upd-same (tail b) r (e .tail);
+        count-is = at _ _ r counts ∙ upd-same (count b) r (e .count);
       })
       (rising-in 0 us (row r f e) vs (ri .1) (ri .2) (ri .0) (ri .3) (rising-out 0 us (row r f d) vs (h .rising)));
 }
   where
-    same : (u : ℕ) → (u < WORDS) × (u ≢ 3) × (u ≢ 4) → word u b' ≡ word u b
-    same u h = s₄ .rest u (h .0, h .2) ∙ s₃ .rest u (h .0, h .1)
+    size : length b' ≡ length b
+    size = s₅ .size ∙ s₄ .size ∙ s₃ .size
+
+    same : (u : ℕ) → (u < WORDS) × (u ≢ 3) × (u ≢ 4) × (u ≢ 5) → word u b' ≡ word u b
+    same u h = s₅ .rest u (h .0, h .3) ∙ s₄ .rest u (h .0, h .2) ∙ s₃ .rest u (h .0, h .1)
 
     heads : head b' ≡ upd (head b) r (e .head)
-    heads = s₄ .rest 3 (omega arith) ∙ s₃ .made
+    heads = s₅ .rest 3 (omega arith) ∙ s₄ .rest 3 (omega arith) ∙ s₃ .made
 
     tails : tail b' ≡ upd (tail b) r (e .tail)
-    tails = s₄ .made ∙ ap (λ (g : ℕ → ℕ). upd g r (e .tail)) (s₃ .rest 4 (omega arith))
+    tails = s₅ .rest 4 (omega arith) ∙ s₄ .made ∙ ap (λ (g : ℕ → ℕ). upd g r (e .tail)) (s₃ .rest 4 (omega arith))
 
-pub owner-set : (b : List ℕ) (x r : ℕ) (b' : List ℕ) → Stored 5 b x r b' → SetOwner b x r b'
+    counts : count b' ≡ upd (count b) r (e .count)
+    counts = s₅ .made ∙ ap (λ (g : ℕ → ℕ). upd g r (e .count)) (s₄ .rest 5 (omega arith) ∙ s₃ .rest 5 (omega arith))
+
+pub owner-set : (b : List ℕ) (x r : ℕ) (b' : List ℕ) → Stored 6 b x r b' → SetOwner b x r b'
 owner-set b x r b' d = record {
   size = d .size;
   owners = d .made;
@@ -84,10 +108,7 @@ owner-set b x r b' d = record {
     size = d .size ∙ h .size;
     ring = rw (d .rest 1 (omega arith), d .rest 2 (omega arith)) (h .ring);
     uses = h .uses;
-    each =
-        all-map (Written b) (Written b')
-        (λ w m. still b b' w (at _ _ (w .num) (d .rest 0 (omega arith))) (at _ _ (w .num) (d .rest 3 (omega arith))) (at _ _ (w .num) (d .rest 4 (omega arith))) m)
-        ws (h .each);
+    each = all-map (Written b) (Written b') (λ w. still b b' w (same-words b b' (λ u n. d .rest u (n .0, n .3)) (w .num))) ws (h .each);
     rising = h .rising;
   };
 }
@@ -95,17 +116,23 @@ owner-set b x r b' d = record {
 pub raised-to : (b : List ℕ) (r g : ℕ) (b' : List ℕ) → Stored 0 b r g b' → Raises b r g b'
 raised-to b r g b' d = record {
   size = d .size;
-  owners = d .rest 5 (omega arith);
+  owners = d .rest 6 (omega arith);
   rows = λ sp s us f e vs l c above h.
       let m = row-written b sp s us (row r f e) vs h in
       let ri = rising-around 0 us (row r f e) vs (h .rising) in
       let low = ri .1 in
       rewritten b b' sp s us r f e vs h g e (d .size) (d .rest 1 (omega arith)) (d .rest 2 (omega arith))
-      (λ k ne. (at _ _ k (d .made) ∙ upd-other (frequency b) r g k ne, at _ _ k (d .rest 3 (omega arith)), at _ _ k (d .rest 4 (omega arith))))
+      (λ k ne. (
+        at _ _ k (d .made) ∙ upd-other (frequency b) r g k ne,
+        at _ _ k (d .rest 3 (omega arith)),
+        at _ _ k (d .rest 4 (omega arith)),
+        at _ _ k (d .rest 5 (omega arith)),
+      ))
       (record {
         freq-is = at _ _ r (d .made) ∙ upd-same (frequency b) r g;
         head-is = at _ _ r (d .rest 3 (omega arith)) ∙ m .head-is;
         tail-is = at _ _ r (d .rest 4 (omega arith)) ∙ m .tail-is;
+        count-is = at _ _ r (d .rest 5 (omega arith)) ∙ m .count-is;
       })
       (rising-in 0 us (row r g e) vs (omega arith) c (all-map (λ u. u .freq < f) (λ u. u .freq < g) (λ u q. omega arith) us (ri .0)) above
       (rising-out 0 us (row r f e) vs (h .rising)));
@@ -150,16 +177,24 @@ module _ (b sp : List ℕ) (s : Buckets) (at₀ g : ℕ) (pre : Making b sp s at
   tails : tail b' ≡ upd (tail b) q NONE
   tails = rest 4 (omega arith) ∙ fl .tails
 
+  counts : count b' ≡ upd (count b) q 0
+  counts = rest 5 (omega arith) ∙ fl .counts
+
   kept : (w : Row) → w .num ≢ q → Written b w → Written b' w
   kept w ne m =
-      still b b' w (at _ _ (w .num) freqs ∙ upd-other (frequency b) q g (w .num) ne) (at _ _ (w .num) heads ∙ upd-other (head b) q NONE (w .num) ne)
-      (at _ _ (w .num) tails ∙ upd-other (tail b) q NONE (w .num) ne) m
+      still b b' w (
+        at _ _ (w .num) freqs ∙ upd-other (frequency b) q g (w .num) ne,
+        at _ _ (w .num) heads ∙ upd-other (head b) q NONE (w .num) ne,
+        at _ _ (w .num) tails ∙ upd-other (tail b) q NONE (w .num) ne,
+        at _ _ (w .num) counts ∙ upd-other (count b) q 0 (w .num) ne,
+      ) m
 
   mine : Written b' (row q g empty)
   mine = record {
     freq-is = at _ _ q freqs ∙ upd-same (frequency b) q g;
     head-is = at _ _ q heads ∙ upd-same (head b) q NONE;
     tail-is = at _ _ q tails ∙ upd-same (tail b) q NONE;
+    count-is = at _ _ q counts ∙ upd-same (count b) q 0;
   }
 
   module _ (us vs : List Row) (ea : at₀ ≡ final NONE (nums us)) (few : length (nums (us ++ vs)) < length sp) (h : RecordsHold b sp s (us ++ vs)) where
@@ -193,7 +228,7 @@ module _ (b sp : List ℕ) (s : Buckets) (at₀ g : ℕ) (pre : Making b sp s at
     number-in = let e = tk .slot in let l = pre .room in let z = pre .size in let w = sizes in omega arith;
     size = sizes;
     spares-size = tk .size;
-    owners = rest 5 (omega arith) ∙ fl .owners;
+    owners = rest 6 (omega arith) ∙ fl .owners;
     rows = λ us vs ea few one c hu hv h. made-rows us vs ea few h (rising-in 0 us (row q g empty) vs (omega arith) c hu hv (h .rising));
   }
 
@@ -243,14 +278,13 @@ module _ (b sp : List ℕ) (s : Buckets) (r lo hi : ℕ) (elo : lo ≡ lower b r
               rw (nums-append us vs)
               (uses-release sp (s .spare) r sp' o (nums us) (nums vs) rl (rw (nums-append us (row r f e ∷ vs)) at (h .uses)) (row-once b sp s us (row r f e) vs h));
           each =
-              all-map (Written b) (Written b')
-              (λ w m. still b b' w (at _ _ (w .num) (others 0 (omega arith))) (at _ _ (w .num) (others 3 (omega arith))) (at _ _ (w .num) (others 4 (omega arith))) m)
+              all-map (Written b) (Written b') (λ w. still b b' w (same-words b b' (λ u n. others u (n .0, n .1, n .2)) (w .num)))
               (us ++ vs) (others-written b sp s us (row r f e) vs h);
           rising = rising-out 0 us (row r f e) vs (h .rising);
         }
 
   pub drops : Drops b sp s r b' sp' d'
-  drops = record { size = l₁ .size ∙ l₂ .size; spares-size = rl .size; owners = others 5 (omega arith); rows = dropped-rows }
+  drops = record { size = l₁ .size ∙ l₂ .size; spares-size = rl .size; owners = others 6 (omega arith); rows = dropped-rows }
 
 -- ---- `reset`
 

@@ -1,6 +1,6 @@
 -- The words of the records as functions, and what a store does to them: it is seen in its own word, at its record, and nowhere else.
 use mathlib.Core.Path.{_≡_, refl, ap, _∙_}
-use mathlib.Core.Logic.{⊎-elim}
+use mathlib.Core.Logic.{_≢_, ⊎-elim}
 use mathlib.Core.List.{List}
 use Prim.Native.Nat.{ℕ, _+_, _*_, _<_, _≤_}
 use native.Mathlib.Omega.{arith}
@@ -9,8 +9,8 @@ use lib.Seq.{getD-set-same, getD-set-other}
 use Rattle.numbers.specs.Marks.{NONE}
 use Rattle.links.specs.Ring.{upd}
 use Rattle.links.proofs.Functions.{is-upd, look-swap, look-upd}
-use Rattle.bucket_table.specs.Records.{WORDS, word, InTable}
-use Rattle.bucket_table.specs.Calls.{Stored, Linked, RecordsFilled}
+use Rattle.bucket_table.specs.Records.{WORDS, word, empty, InTable}
+use Rattle.bucket_table.specs.Calls.{Stored, Linked, SetEnds, RecordsFilled}
 
 pub stored : (w : ℕ) (b : List ℕ) (r v : ℕ) → InTable b r → w < WORDS → Stored w b r v (set b (r * WORDS + w) v)
 stored w b r v fits wide = record {
@@ -47,26 +47,24 @@ link-past w b e i v wide h q = record {
 
 -- ---- `fill`
 
-module _ (b : List ℕ) (r f l h : ℕ) (b₁ b₂ b₃ b₄ b' : List ℕ) (s₀ : Stored 0 b r f b₁) (s₁ : Stored 1 b₁ r l b₂) (s₂ : Stored 2 b₂ r h b₃) (s₃ : Stored 3 b₃ r NONE b₄) (s₄ : Stored 4 b₄ r NONE b') where
-  -- what the stores before a word's own leave of it, and what those after leave
+module _ (b : List ℕ) (r f l h : ℕ) (b₁ b₂ b₃ b' : List ℕ)
+    (s₀ : Stored 0 b r f b₁) (s₁ : Stored 1 b₁ r l b₂) (s₂ : Stored 2 b₂ r h b₃) (se : SetEnds b₃ r empty b') where
+  -- what the stores before a word's own leave of it
   before-it : (w v : ℕ) (c d : List ℕ) → word w d ≡ upd (word w c) r v → word w c ≡ word w b → word w d ≡ upd (word w b) r v
   before-it w v c d m e = m ∙ ap (λ (g : ℕ → ℕ). upd g r v) e
 
+  -- the words that are written last, or not at all
+  late : (w : ℕ) → (w < WORDS) × (w ≢ 0) × (w ≢ 1) × (w ≢ 2) → word w b₃ ≡ word w b
+  late w n = s₂ .rest w (n .0, n .3) ∙ s₁ .rest w (n .0, n .2) ∙ s₀ .rest w (n .0, n .1)
+
   pub filled : RecordsFilled b r f l h b'
   filled = record {
-    size = s₄ .size ∙ s₃ .size ∙ s₂ .size ∙ s₁ .size ∙ s₀ .size;
-    frequencies = s₄ .rest 0 (omega arith) ∙ s₃ .rest 0 (omega arith) ∙ s₂ .rest 0 (omega arith) ∙ s₁ .rest 0 (omega arith) ∙ s₀ .made;
-    lowers =
-        s₄ .rest 1 (omega arith) ∙ s₃ .rest 1 (omega arith) ∙ s₂ .rest 1 (omega arith)
-        ∙ before-it 1 l b₁ b₂ (s₁ .made) (s₀ .rest 1 (omega arith));
-    highers =
-        s₄ .rest 2 (omega arith) ∙ s₃ .rest 2 (omega arith)
-        ∙ before-it 2 h b₂ b₃ (s₂ .made) (s₁ .rest 2 (omega arith) ∙ s₀ .rest 2 (omega arith));
-    heads =
-        s₄ .rest 3 (omega arith)
-        ∙ before-it 3 NONE b₃ b₄ (s₃ .made) (s₂ .rest 3 (omega arith) ∙ s₁ .rest 3 (omega arith) ∙ s₀ .rest 3 (omega arith));
-    tails =
-        before-it 4 NONE b₄ b' (s₄ .made)
-        (s₃ .rest 4 (omega arith) ∙ s₂ .rest 4 (omega arith) ∙ s₁ .rest 4 (omega arith) ∙ s₀ .rest 4 (omega arith));
-    owners = s₄ .rest 5 (omega arith) ∙ s₃ .rest 5 (omega arith) ∙ s₂ .rest 5 (omega arith) ∙ s₁ .rest 5 (omega arith) ∙ s₀ .rest 5 (omega arith);
+    size = se .size ∙ s₂ .size ∙ s₁ .size ∙ s₀ .size;
+    frequencies = se .rest 0 (omega arith) ∙ s₂ .rest 0 (omega arith) ∙ s₁ .rest 0 (omega arith) ∙ s₀ .made;
+    lowers = se .rest 1 (omega arith) ∙ s₂ .rest 1 (omega arith) ∙ before-it 1 l b₁ b₂ (s₁ .made) (s₀ .rest 1 (omega arith));
+    highers = se .rest 2 (omega arith) ∙ before-it 2 h b₂ b₃ (s₂ .made) (s₁ .rest 2 (omega arith) ∙ s₀ .rest 2 (omega arith));
+    heads = before-it 3 NONE b₃ b' (se .heads) (late 3 (omega arith));
+    tails = before-it 4 NONE b₃ b' (se .tails) (late 4 (omega arith));
+    counts = before-it 5 0 b₃ b' (se .counts) (late 5 (omega arith));
+    owners = se .owners ∙ late 6 (omega arith);
   }

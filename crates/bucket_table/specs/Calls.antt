@@ -11,7 +11,7 @@ use Rattle.links.specs.Ring.{upd, look}
 use Rattle.links.specs.declared.Ends.{Ends}
 use Rattle.bucket_table.specs.declared.Buckets.{Buckets}
 use Rattle.bucket_table.specs.declared.Made.{Made}
-use Rattle.bucket_table.specs.Records.{WORDS, word, frequency, lower, higher, head, tail, owner, up, InTable, Spot, Row, row, empty, nums, RecordsHold}
+use Rattle.bucket_table.specs.Records.{WORDS, word, frequency, lower, higher, head, tail, count, owner, up, InTable, Spot, Row, row, empty, nums, RecordsHold}
 
 -- ---- the words
 
@@ -35,12 +35,17 @@ pub record RecordsFilled (b : List ℕ) (r f l h : ℕ) (b' : List ℕ) : Type 0
   pub highers : higher b' ≡ upd (higher b) r h
   pub heads : head b' ≡ upd (head b) r NONE
   pub tails : tail b' ≡ upd (tail b) r NONE
+  pub counts : count b' ≡ upd (count b) r 0
   pub owners : owner b' ≡ owner b
 
 -- ---- one row
 
 pub record SetEnds (b : List ℕ) (r : ℕ) (e : Ends) (b' : List ℕ) : Type 0 where
   pub size : length b' ≡ length b
+  pub heads : head b' ≡ upd (head b) r (e .head)
+  pub tails : tail b' ≡ upd (tail b) r (e .tail)
+  pub counts : count b' ≡ upd (count b) r (e .count)
+  pub rest : (u : ℕ) → (u < WORDS) × (u ≢ 3) × (u ≢ 4) × (u ≢ 5) → word u b' ≡ word u b
   pub owners : owner b' ≡ owner b
   pub rows : (sp : List ℕ) (s : Buckets) (us : List Row) (f : ℕ) (d : Ends) (vs : List Row)
       → RecordsHold b sp s (us ++ row r f d ∷ vs) → RecordsHold b' sp s (us ++ row r f e ∷ vs)

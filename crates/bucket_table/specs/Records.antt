@@ -14,7 +14,7 @@ use Rattle.bucket_table.specs.declared.Buckets.{Buckets}
 
 -- how many words a record has
 abbrev pub WORDS : ℕ
-WORDS = 6
+WORDS = 7
 
 -- word w of each record
 abbrev pub word : ℕ → List ℕ → ℕ → ℕ
@@ -38,9 +38,13 @@ head b = word 3 b
 abbrev pub tail : List ℕ → ℕ → ℕ
 tail b = word 4 b
 
+-- how many slots the list has
+abbrev pub count : List ℕ → ℕ → ℕ
+count b = word 5 b
+
 -- the record that a slot is in
 abbrev pub owner : List ℕ → ℕ → ℕ
-owner b = word 5 b
+owner b = word 6 b
 
 -- the record above one, and the record below: above NONE is the lowest, below NONE the highest
 abbrev pub up : List ℕ → Buckets → ℕ → ℕ
@@ -57,6 +61,10 @@ InTable b r = r * WORDS + WORDS ≤ length b
 abbrev pub Spot : List ℕ → ℕ → Type 0
 Spot b i = ((i < NONE) × InTable b i) ⊎ (i ≡ NONE)
 
+-- the ends that the table has of the list of record r
+abbrev pub EndsAt : List ℕ → ℕ → Ends → Type 0
+EndsAt b r e = (e .head ≡ head b r) × (e .tail ≡ tail b r) × (e .count ≡ count b r)
+
 -- a record in use: its number, its frequency, and the ends of its list
 pub record Row : Type 0 where
   pub num : ℕ
@@ -68,11 +76,11 @@ row r f e = record { num = r; freq = f; ends = e }
 
 -- what the table says of record r
 abbrev pub rowOf : List ℕ → ℕ → Row
-rowOf b r = row r (frequency b r) (record { head = head b r; tail = tail b r })
+rowOf b r = row r (frequency b r) (record { head = head b r; tail = tail b r; count = count b r })
 
 -- the ends of an empty list
 abbrev pub empty : Ends
-empty = record { head = NONE; tail = NONE }
+empty = record { head = NONE; tail = NONE; count = 0 }
 
 -- the numbers of the rows
 abbrev pub nums : List Row → List ℕ
@@ -88,6 +96,7 @@ pub record Written (b : List ℕ) (w : Row) : Type 0 where
   pub freq-is : frequency b (w .num) ≡ w .freq
   pub head-is : head b (w .num) ≡ w .ends .head
   pub tail-is : tail b (w .num) ≡ w .ends .tail
+  pub count-is : count b (w .num) ≡ w .ends .count
 
 -- the tables hold the rows: linked both ways from the lowest up, and all other records spare
 pub record RecordsHold (b sp : List ℕ) (s : Buckets) (ws : List Row) : Type 0 where

@@ -1,6 +1,6 @@
 // The bucket table: one record for each frequency in use, linked to the next lower and the next higher one, with the ends of its list of
-// slots; and for each slot the record that it is in. All of it lies in one lent table, WORDS words for each record. Records that are not in
-// use are kept by a slot arena over a second table.
+// slots and how many they are; and for each slot the record that it is in. All of it lies in one lent table, WORDS words for each record.
+// Records that are not in use are kept by a slot arena over a second table.
 ghost use mathlib.Core.Path.{_≡_};
 ghost use mathlib.Core.Bool.{true};
 ghost use mathlib.Core.Logic.{_↔_};
@@ -11,9 +11,9 @@ use numbers::Slot;
 
 pub mod sound;
 
-// How many words a record has: its frequency, the next lower and the next higher record, head and tail of its list, and the record of the
-// slot that has this record's number.
-pub const WORDS: u64 = 6;
+// How many words a record has: its frequency, the next lower and the next higher record, head and tail of its list, how many slots the list
+// has, and the record of the slot that has this record's number.
+pub const WORDS: u64 = 7;
 
 // The lowest and the highest record, NONE where there is none, and the order of the spare ones.
 pub struct Buckets {

@@ -6,7 +6,7 @@ ghost use mathlib.Core.List.{List};
 ghost use Prim.Native.Nat.{ℕ, _<_, _≤_};
 ghost use lib.ListN.{length};
 ghost use Rattle.numbers.specs.Marks.{LIMIT};
-ghost use Rattle.bucket_table.specs.Records.{WORDS, word, frequency, head, tail, owner, lower, up, InTable, Spot, RecordsSound};
+ghost use Rattle.bucket_table.specs.Records.{WORDS, word, frequency, owner, lower, up, InTable, Spot, EndsAt, RecordsSound};
 ghost use Rattle.bucket_table.specs.Calls.{Stored, Linked, SetEnds, SetOwner, HasLevel, Raises, Making, Opening, Opens, Dropping, Drops, MakesRecord, RecordsReset, PlacesRecord, RecordsFilled};
 use crate::Buckets;
 use crate::Made;
@@ -26,7 +26,9 @@ const HEAD: u64 = 3;
 
 const TAIL: u64 = 4;
 
-const OWNER: u64 = 5;
+const COUNT: u64 = 5;
+
+const OWNER: u64 = 6;
 
 // A word of a record.
 fn word(buckets: &[u64], number: u64, w: u64) -> u64
@@ -68,14 +70,15 @@ pub fn frequency(buckets: &[u64], number: u64) -> Frequency
     Frequency(word(buckets, number, FREQUENCY))
 }
 
-// The first and the last slot of a record's list.
+// The first and the last slot of a record's list, and how many it has.
 pub fn ends(buckets: &[u64], number: u64) -> links::Ends
     requires { ⌜ InTable (now buckets) number ⌝ }
-    ensures { λ r. ⌜ (r .head ≡ head (now (buckets .entry)) number) × (r .tail ≡ tail (now (buckets .entry)) number) ⌝ }
+    ensures { λ r. ⌜ EndsAt (now (buckets .entry)) number r ⌝ }
 {
     links::Ends {
         head: word(buckets, number, HEAD),
         tail: word(buckets, number, TAIL),
+        count: word(buckets, number, COUNT),
     }
 }
 
@@ -124,6 +127,7 @@ pub fn set_ends(buckets: &mut [u64], number: u64, ends: links::Ends)
 {
     store(buckets, number, HEAD, ends.head);
     store(buckets, number, TAIL, ends.tail);
+    store(buckets, number, COUNT, ends.count);
 }
 
 // Says which record a slot is in.
@@ -150,8 +154,12 @@ fn fill(buckets: &mut [u64], number: u64, frequency: Frequency, lower: u64, high
     store(buckets, number, FREQUENCY, frequency.0);
     store(buckets, number, LOWER, lower);
     store(buckets, number, HIGHER, higher);
-    store(buckets, number, HEAD, NONE);
-    store(buckets, number, TAIL, NONE);
+    let none = links::Ends {
+        head: NONE,
+        tail: NONE,
+        count: 0,
+    };
+    set_ends(buckets, number, none);
 }
 
 // Makes a record for a frequency above the record `at`, the lowest one where that is NONE.

@@ -1,4 +1,4 @@
--- Each call that only answers gives the ledger's reply: by what was found in the index, and by the lowest list.
+-- Each call that only answers gives the ledger's reply: by what was found in the index, by the lowest list, and by the lengths of the lists.
 use mathlib.Core.Path.{_≡_, refl, sym, ap, _∙_}
 use mathlib.Core.Logic.{_≢_}
 use mathlib.Core.Option.{none, some}
@@ -12,17 +12,20 @@ use Rattle.numbers.specs.declared.Answer.the-variants.{Absent, Empty}
 use Rattle.numbers.specs.declared.Slot.{Slot}
 use Rattle.ledger.specs.Ledger.{Entry, Level, Ledger, Item, ifFound, lookup, tail, lowest, NonEmpty, Rising}
 use Rattle.ledger.specs.Buckets.{Outcome, done, refused, yesNo, contains, frequency, entryEpoch, currentEpoch, len, isEmpty, minFreq, peekMin}
+use Rattle.ledger.specs.Counts.{bucketLen, lenUpTo}
 use Rattle.promise.specs.Promise.{Tells}
 use Rattle.links.specs.Chain.{cells}
 use Rattle.key_index.specs.Index as index
 use Rattle.key_index.specs.declared.Found.the-variants.{At, Nothing}
 use Rattle.key_index.specs.Index.{IndexSound}
 use Rattle.levels.specs.Levels as levels
+use Rattle.levels.specs.Calls.{Counts, CountsUpTo}
 use Rattle.buckets_tables.specs.declared.State.{State}
 use Rattle.buckets_tables.specs.Tables.{Tables}
 use Rattle.buckets_tables.specs.Holds.{lowestOf, Holds}
 use Rattle.buckets_tables.proofs.Found.{Stands, found-at, found-nothing, lowest-nothing}
 use Rattle.buckets_tables.proofs.Doing.{least, stands-x}
+use Rattle.buckets_tables.proofs.Sizes.{size-at, size-up-to}
 use Rattle.buckets_tables.specs.Lent.{buckets}
 
 -- A key that the index finds, or does not
@@ -127,3 +130,18 @@ module _ (t : Tables) (s : State) (x : ℕ) (low : (l : Ledger) (h : Holds t s l
       let w = least t s x low d l h in
       let st = stands-x t s x low d l h in
       rw (w .1 .is) (λ i. done (st .key i ∷ st .frequency i ∷ []))
+
+-- The lengths of the lists
+
+module _ (t : Tables) (s : State) (g n : ℕ) where
+  pub bucket-len-told : Counts (t .buckets) (s .buckets) g n → Tells buckets (bucketLen g) t s (done (n ∷ []))
+  unfolding bucketLen
+  bucket-len-told c l h =
+      ap (λ (m : ℕ). done (m ∷ []))
+      (c .answer _ _ _ _ (h .slots) (h .lists) ∙ sym (size-at (t .keys) (t .epochs) l (h .slots) (h .entries) g))
+
+  pub len-up-to-told : CountsUpTo (t .buckets) (s .buckets) g n → Tells buckets (lenUpTo g) t s (done (n ∷ []))
+  unfolding lenUpTo
+  len-up-to-told c l h =
+      ap (λ (m : ℕ). done (m ∷ []))
+      (c .answer _ _ _ _ (h .slots) (h .lists) ∙ sym (size-up-to (t .keys) (t .epochs) l (h .slots) (h .entries) g))

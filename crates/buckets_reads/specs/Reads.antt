@@ -31,3 +31,12 @@ Peekable k f b s = (e : List ℕ) × (p : List ℕ) × (n : List ℕ) × (a : Li
 
 abbrev pub OfLeast : (k f b : List ℕ) → State → (Ledger → Outcome) → Reply → Type 0
 OfLeast k f b s call r = (e p n a i sp : List ℕ) → Tells buckets call (tables k f e p n a i b sp) s r
+
+-- the bucket records are lent: with some other tables they are sound
+abbrev pub Countable : (b : List ℕ) → State → Type 0
+Countable b s =
+    (k : List ℕ) × (f : List ℕ) × (e : List ℕ) × (p : List ℕ) × (n : List ℕ) × (a : List ℕ) × (i : List ℕ) × (sp : List ℕ)
+    × Sound buckets (tables k f e p n a i b sp) s
+
+abbrev pub OfRecords : (b : List ℕ) → State → (Ledger → Outcome) → Reply → Type 0
+OfRecords b s call r = (k f e p n a i sp : List ℕ) → Tells buckets call (tables k f e p n a i b sp) s r

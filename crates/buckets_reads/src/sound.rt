@@ -1,11 +1,12 @@
 // The calls that only answer, on tables that are known to be sound: they check nothing, and each is lent only what it reads. Beside
-// the key index's search each takes a few steps.
+// the key index's search each takes a few steps, but for the counts of keys by frequency: these take a step for each level up to it.
 ghost use mathlib.Core.Path.{_≡_};
 ghost use lib.ListN.{length};
 ghost use Rattle.ledger.specs.Buckets as ledger;
+ghost use Rattle.ledger.specs.Counts.{bucketLen, lenUpTo};
 ghost use Rattle.key_index.specs.Index.{IndexSound};
 ghost use Rattle.answers.specs.Replies.{yesReply, numberReply, levelReply, leastReply, epochReply};
-ghost use Rattle.buckets_reads.specs.Reads.{OfKeys, OfFrequencies, OfEpochs, OfState, Peekable, OfLeast};
+ghost use Rattle.buckets_reads.specs.Reads.{OfKeys, OfFrequencies, OfEpochs, OfState, Peekable, OfLeast, Countable, OfRecords};
 use answers::Epoch;
 use answers::Least;
 use answers::Level;
@@ -93,4 +94,20 @@ pub fn peek_min(keys: &[u64], freqs: &[u64], buckets: &[u64], state: State) -> L
     let key = Key(keys[slot.0 as usize]);
     let frequency = Frequency(freqs[slot.0 as usize]);
     Least::Is(key, frequency)
+}
+
+// How many keys have a frequency, 0 where it is not in use.
+pub fn bucket_len(buckets: &[u64], state: State, frequency: Frequency) -> u64
+    requires { ⌜ Countable (now buckets) state ⌝ }
+    ensures { λ r. ⌜ OfRecords (now (buckets .entry)) state (bucketLen (frequency .0)) (numberReply r) ⌝ }
+{
+    levels::sound::count(buckets, state.buckets, frequency)
+}
+
+// How many keys have at most a frequency.
+pub fn len_up_to(buckets: &[u64], state: State, frequency: Frequency) -> u64
+    requires { ⌜ Countable (now buckets) state ⌝ }
+    ensures { λ r. ⌜ OfRecords (now (buckets .entry)) state (lenUpTo (frequency .0)) (numberReply r) ⌝ }
+{
+    levels::sound::count_up_to(buckets, state.buckets, frequency)
 }

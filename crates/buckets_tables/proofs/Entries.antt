@@ -10,10 +10,11 @@ use lib.Dec.{eqb, ltb}
 use Rattle.lists.specs.Lists.{All, Without, one, times}
 use Rattle.lists.proofs.Members.{all-map, all-both, sum-append}
 use Rattle.ledger.specs.Ledger.{Item, tag, items, level, slotted}
+use Rattle.ledger.specs.Walk.{listOf}
 use Rattle.ledger.proofs.Split.{level-of, joined, hitAt}
 use Rattle.links.specs.Chain.{cells}
 use Rattle.levels.specs.Levels as levels
-use Rattle.levels.specs.Levels.{members, Nowhere, keep, join, touched}
+use Rattle.levels.specs.Levels.{members, Nowhere, keep, join, touched, slotList}
 use Rattle.buckets_tables.specs.Holds.{entryAt, entriesAt, levelsAt, Blank}
 
 -- two pairs of tables say the same of slot x
@@ -60,6 +61,16 @@ module _ (k e : List ℕ) where
           (level-of f (entryAt k e x ∷ entriesAt k e zs) ∷ levelsAt k e ls)
       go true = levels-keep f zs (join x (f + 1) ls) ∙ ap (level f (entriesAt k e zs)) (levels-join x (f + 1) ls)
       go false = refl
+
+  -- the ledger's list of a frequency is that of the level's slots
+  pub list-slots : (f : ℕ) (ls : List levels.Level) → listOf f (levelsAt k e ls) ≡ tag f (entriesAt k e (slotList f ls)) []
+  list-slots f [] = refl
+  list-slots f (l ∷ ls) = go (eqb (l .freq) f) (list-slots f ls)
+    where
+      go : (b : Bool) → listOf f (levelsAt k e ls) ≡ tag f (entriesAt k e (slotList f ls)) [] →
+          cond b (tag f (entriesAt k e (l .slots)) []) (listOf f (levelsAt k e ls)) ≡ tag f (entriesAt k e (cond b (l .slots) (slotList f ls))) []
+      go true q = refl
+      go false q = q
 
   -- how often a slot stands among the items is how often it stands in the lists
   slotted-tag : (s f : ℕ) (xs : List ℕ) (zs : List Item) → slotted s (tag f (entriesAt k e xs) zs) ≡ times s xs + slotted s zs

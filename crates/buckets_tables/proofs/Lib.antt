@@ -1,4 +1,5 @@
 pub mod Entries
+pub mod Sizes
 pub mod Places
 pub mod Steps
 pub mod Asked

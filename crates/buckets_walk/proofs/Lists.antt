@@ -1,42 +1,18 @@
--- The list of a frequency, as slots and as the ledger's items: its head is the head of its level, and a walk stands only at items.
+-- The list of a frequency: what holds of all slots holds of its slots, it is that of its level, and a walk stands only at its items.
 -- Inductions on the levels.
 use mathlib.Core.Path.{_≡_, refl, ap, _∙_}
 use mathlib.Core.Logic.{inl, inr}
-use mathlib.Core.Bool.{Bool, true, false, cond}
 use mathlib.Core.List.{List, [], _∷_, _++_}
 use Prim.Native.Nat.{ℕ, _<_}
 use native.Mathlib.Omega.{arith}
-use lib.Dec.{eqb}
 use Rattle.lists.specs.Lists.{All, In}
 use Rattle.lists.proofs.Tests.{if-eq, if-same, if-other}
 use Rattle.lists.proofs.Members.{all-left, all-right}
 use Rattle.ledger.specs.Ledger.{Ledger, Item, item, items, tag}
 use Rattle.ledger.specs.Walk.{inSlot, here, listOf, head, start, after, afterItem, step}
 use Rattle.ledger.proofs.Walked.{listOf-in}
-use Rattle.levels.specs.Levels.{Level, level, members, first, headOf, LevelsRise}
-use Rattle.buckets_tables.specs.Holds.{entryAt, entriesAt, levelsAt}
-
--- the slots of frequency f
-abbrev pub slotList : ℕ → List Level → List ℕ
-slotList f [] = []
-slotList f (l ∷ ls) = cond (eqb (l .freq) f) (l .slots) (slotList f ls)
-
-pub head-slots : (f : ℕ) (ls : List Level) → headOf f ls ≡ first (slotList f ls)
-head-slots f [] = refl
-head-slots f (l ∷ ls) = go (eqb (l .freq) f) (head-slots f ls)
-  where
-    go : (b : Bool) → headOf f ls ≡ first (slotList f ls) → cond b (first (l .slots)) (headOf f ls) ≡ first (cond b (l .slots) (slotList f ls))
-    go true e = refl
-    go false e = e
-
-pub list-slots : (k e : List ℕ) (f : ℕ) (ls : List Level) → listOf f (levelsAt k e ls) ≡ tag f (entriesAt k e (slotList f ls)) []
-list-slots k e f [] = refl
-list-slots k e f (l ∷ ls) = go (eqb (l .freq) f) (list-slots k e f ls)
-  where
-    go : (b : Bool) → listOf f (levelsAt k e ls) ≡ tag f (entriesAt k e (slotList f ls)) [] →
-        cond b (tag f (entriesAt k e (l .slots)) []) (listOf f (levelsAt k e ls)) ≡ tag f (entriesAt k e (cond b (l .slots) (slotList f ls))) []
-    go true q = refl
-    go false q = q
+use Rattle.levels.specs.Levels.{Level, level, members, slotList, LevelsRise}
+use Rattle.buckets_tables.specs.Holds.{entryAt, entriesAt}
 
 pub slots-all : (P : ℕ → Type 0) (f : ℕ) (ls : List Level) → All P (members ls) → All P (slotList f ls)
 slots-all P f [] a = tt

@@ -21,18 +21,20 @@ use Rattle.ledger.specs.Walk.{Step, here, noMore, absent, stepReply, listOf, he
 use Rattle.ledger.proofs.Walked.{listOf-frequency, listOf-in, step-at, step-free, step-outside}
 use Rattle.links.specs.Chain.{cells}
 use Rattle.levels.specs.Levels as levels
+use Rattle.levels.specs.Levels.{slotList}
 use Rattle.levels.specs.Calls.{Heads}
 use Rattle.levels.proofs.Lines.{nowhere-members}
+use Rattle.levels.proofs.Answers.{head-slots}
 use Rattle.levels.proofs.One.{held-one, held-below, held-rising, held-next, free-nowhere, taken-bound}
 use Rattle.buckets_tables.specs.declared.State.{State}
 use Rattle.buckets_tables.specs.Tables.{Tables, tables, leveled}
 use Rattle.buckets_tables.specs.Holds.{entryAt, entriesAt, BoundSlot, Holds}
-use Rattle.buckets_tables.proofs.Entries.{slotted-members}
+use Rattle.buckets_tables.proofs.Entries.{slotted-members, list-slots}
 use Rattle.buckets_tables.proofs.Found.{Stands, stands}
 use Rattle.buckets_walk.specs.declared.After.{After}
 use Rattle.buckets_walk.specs.declared.After.the-variants as link
 use Rattle.buckets_walk.specs.Walks.{slotOf, linkAt, Leads, Startable, OfStart, Walkable, OfStep}
-use Rattle.buckets_walk.proofs.Lists.{slotList, head-slots, list-slots, slots-all, slots-there, tag-there, start-in, step-in}
+use Rattle.buckets_walk.proofs.Lists.{slots-all, slots-there, tag-there, start-in, step-in}
 
 -- where a link leads
 abbrev led : ℕ → After

@@ -264,7 +264,7 @@ pub fn start(capacity: usize, source: i32) {
     let mut nexts = [0u64; 4096];
     let mut arena = [0u64; 4096];
     let mut index = [0u64; 8192];
-    let mut buckets = [0u64; 24576];
+    let mut buckets = [0u64; 28672];
     let mut spares = [0u64; 4096];
     let mut values = [0u64; 4096];
     let lent = places(capacity);

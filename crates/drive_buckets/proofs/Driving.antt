@@ -29,9 +29,20 @@ module _ (t : Tables) (s : State) (told : Told) (t' : Tables) (s' : State) where
 
 module _ (code a : ℕ) where
   pub no-query : (code ≡ 6 → ⊥) → (code ≡ 7 → ⊥) → (code ≡ 8 → ⊥) → (code ≡ 9 → ⊥) → (code ≡ 11 → ⊥) → (code ≡ 14 → ⊥) → (code ≡ 15 → ⊥) → (code ≡ 16 → ⊥) →
-      queryCall code a ≡ none
-  no-query n6 n7 n8 n9 n11 n14 n15 n16 =
-      rw (ne-eqb code 6 n6, ne-eqb code 7 n7, ne-eqb code 8 n8, ne-eqb code 9 n9, ne-eqb code 11 n11, ne-eqb code 14 n14, ne-eqb code 15 n15, ne-eqb code 16 n16)
+      (code ≡ 24 → ⊥) → (code ≡ 25 → ⊥) → queryCall code a ≡ none
+  no-query n6 n7 n8 n9 n11 n14 n15 n16 n24 n25 =
+      rw (
+        ne-eqb code 6 n6,
+        ne-eqb code 7 n7,
+        ne-eqb code 8 n8,
+        ne-eqb code 9 n9,
+        ne-eqb code 11 n11,
+        ne-eqb code 14 n14,
+        ne-eqb code 15 n15,
+        ne-eqb code 16 n16,
+        ne-eqb code 24 n24,
+        ne-eqb code 25 n25,
+      )
 
   module _ (b : ℕ) where
     pub no-epoch : (code ≡ 10 → ⊥) → (code ≡ 12 → ⊥) → (code ≡ 13 → ⊥) → epochCall code a b ≡ queryCall code a

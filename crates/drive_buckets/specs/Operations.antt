@@ -7,7 +7,7 @@ use Prim.Native.Nat.{ℕ, zero, suc, _+_, _^_, _%_}
 use lib.Dec.{eqb}
 use Rattle.numbers.specs.Frequency.{CEILING}
 use Rattle.ledger.specs.Buckets.{Reply}
-use Rattle.ledger.specs.BucketCalls.{BucketCall, Ask, PeekMin, MinFreq, Frequency, EntryEpoch, CurrentEpoch, Len, IsEmpty, Contains, Insert, Touch, Remove, PopMin, SetEntryEpoch, SetEpoch, AdvanceEpoch, DecayHalve, DecayHalveTimes, RebaseMinFreq, Clear, InsertBatch, TouchBatch, RemoveBatch}
+use Rattle.ledger.specs.BucketCalls.{BucketCall, Ask, PeekMin, MinFreq, Frequency, EntryEpoch, CurrentEpoch, Len, IsEmpty, Contains, BucketLen, LenUpTo, Insert, Touch, Remove, PopMin, SetEntryEpoch, SetEpoch, AdvanceEpoch, DecayHalve, DecayHalveTimes, RebaseMinFreq, Clear, InsertBatch, TouchBatch, RemoveBatch}
 use Rattle.promise.specs.Promise.{Makes}
 use Rattle.buckets_tables.specs.declared.State.{State}
 use Rattle.buckets_tables.specs.Tables.{Tables}
@@ -28,7 +28,9 @@ queryCall code a =
     (cond (eqb code 11) (some (Ask CurrentEpoch))
     (cond (eqb code 14) (some (Ask Len))
     (cond (eqb code 15) (some (Ask IsEmpty))
-    (cond (eqb code 16) (some (Ask (Contains a))) none)))))))
+    (cond (eqb code 16) (some (Ask (Contains a)))
+    (cond (eqb code 24) (some (Ask (BucketLen a)))
+    (cond (eqb code 25) (some (Ask (LenUpTo a))) none)))))))))
 
 -- and those that set an epoch
 abbrev pub epochCall : (code a b : ℕ) → Option BucketCall
@@ -48,7 +50,7 @@ decayCall code a b =
 abbrev pub wholeCall : (code a b : ℕ) → Option BucketCall
 wholeCall code a b = cond (eqb code 19) (some Clear) (decayCall code a b)
 
--- and those on one key: all of 1 to 19, and 22
+-- and those on one key: all of 1 to 19, 22, 24 and 25
 abbrev pub bucketCall : (code a b : ℕ) → Option BucketCall
 bucketCall code a b =
     cond (eqb code 1) (some (Insert a))

@@ -21,18 +21,21 @@ use frequency_buckets_epochs::advance_epoch;
 use frequency_buckets_epochs::set_entry_epoch;
 use frequency_buckets_epochs::set_epoch;
 use frequency_buckets_make::clear;
+use frequency_buckets_queries::bucket_len;
 use frequency_buckets_queries::contains;
 use frequency_buckets_queries::current_epoch;
 use frequency_buckets_queries::entry_epoch;
 use frequency_buckets_queries::frequency;
 use frequency_buckets_queries::is_empty;
 use frequency_buckets_queries::len;
+use frequency_buckets_queries::len_up_to;
 use frequency_buckets_queries::min_freq;
 use frequency_buckets_queries::peek_min;
+use numbers::Frequency;
 use numbers::Key;
 use trace::Word;
 
-// 6 to 9, 11 and 14 to 16: the operations that only answer. Any other is BAD.
+// 6 to 9, 11, 14 to 16, 24 and 25: the operations that only answer. Any other is BAD.
 pub(crate) fn asks(
     k: &[u64],
     f: &[u64],
@@ -58,6 +61,8 @@ pub(crate) fn asks(
         14 => count(len(k, f, e, p, n, ar, ix, bk, sp, state)),
         15 => asked(is_empty(k, f, e, p, n, ar, ix, bk, sp, state)),
         16 => asked(contains(k, f, e, p, n, ar, ix, bk, sp, state, Key(a))),
+        24 => count(bucket_len(k, f, e, p, n, ar, ix, bk, sp, state, Frequency(a))),
+        25 => count(len_up_to(k, f, e, p, n, ar, ix, bk, sp, state, Frequency(a))),
         _ => Told::Just(Word::Bad),
     }
 }

@@ -23,7 +23,7 @@ pub mod after;
 pub mod batches;
 pub mod cases;
 
-// One record, by its operation: 1 to 19. Any other is BAD.
+// One record, by its operation: 1 to 19, 22, 24 and 25. Any other is BAD.
 pub fn act(
     k: &mut [u64],
     f: &mut [u64],

@@ -58,7 +58,7 @@ fn main() {
     let mut n = [0u64; 4];
     let mut a = [0u64; 4];
     let mut i = [0u64; 8];
-    let mut b = [0u64; 24];
+    let mut b = [0u64; 28];
     let mut s = [0u64; 4];
     say(leaves(
         &mut k,

@@ -11,6 +11,7 @@ use answers::Epoch;
 use answers::Least;
 use answers::Level;
 use buckets_tables::State;
+use numbers::Frequency;
 use numbers::Key;
 
 pub mod walk;
@@ -288,4 +289,74 @@ pub fn peek_min(
         return buckets_reads::sound::peek_min(keys, freqs, buckets, state);
     }
     Least::Refused(why)
+}
+
+// How many keys have a frequency, 0 where it is not in use.
+pub fn bucket_len(
+    keys: &[u64],
+    freqs: &[u64],
+    epochs: &[u64],
+    prevs: &[u64],
+    nexts: &[u64],
+    arena: &[u64],
+    index: &[u64],
+    buckets: &[u64],
+    spares: &[u64],
+    state: State,
+    frequency: Frequency,
+) -> Count
+    ensures { λ r. ⌜ Answers kind.buckets (ledger.Ask (ledger.BucketLen (frequency .0)))
+        (before keys freqs epochs prevs nexts arena index buckets spares) state (countReply r) ⌝ }
+{
+    let why = buckets_check::refusal(
+        keys,
+        freqs,
+        epochs,
+        prevs,
+        nexts,
+        arena,
+        index,
+        buckets,
+        spares,
+        state,
+    );
+    if why.is_done() {
+        return Count::Is(buckets_reads::sound::bucket_len(buckets, state, frequency));
+    }
+    Count::Refused(why)
+}
+
+// How many keys have at most a frequency.
+pub fn len_up_to(
+    keys: &[u64],
+    freqs: &[u64],
+    epochs: &[u64],
+    prevs: &[u64],
+    nexts: &[u64],
+    arena: &[u64],
+    index: &[u64],
+    buckets: &[u64],
+    spares: &[u64],
+    state: State,
+    frequency: Frequency,
+) -> Count
+    ensures { λ r. ⌜ Answers kind.buckets (ledger.Ask (ledger.LenUpTo (frequency .0)))
+        (before keys freqs epochs prevs nexts arena index buckets spares) state (countReply r) ⌝ }
+{
+    let why = buckets_check::refusal(
+        keys,
+        freqs,
+        epochs,
+        prevs,
+        nexts,
+        arena,
+        index,
+        buckets,
+        spares,
+        state,
+    );
+    if why.is_done() {
+        return Count::Is(buckets_reads::sound::len_up_to(buckets, state, frequency));
+    }
+    Count::Refused(why)
 }

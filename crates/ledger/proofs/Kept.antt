@@ -10,7 +10,8 @@ use Rattle.lists.specs.Lists.{In}
 use Rattle.ledger.specs.Ledger.{Ledger, Item, new, items, lookup, ifFound, lowest, put, release, move, keyed, WellFormed}
 use Rattle.ledger.specs.Buckets.{Outcome, insertAs, insert, touch, remove, popMin, peekMin, minFreq, frequency, entryEpoch, redated, setEntryEpoch, currentEpoch, atEpoch, setEpoch, advanceEpoch, len, isEmpty, contains, clear, batch, insertBatch, touchBatch, removeBatch}
 use Rattle.ledger.specs.Regroup.{decayHalve, decayHalveTimes, rebaseMinFreq}
-use Rattle.ledger.specs.BucketCalls.{Query, PeekMin, MinFreq, Frequency, EntryEpoch, CurrentEpoch, Len, IsEmpty, Contains, WalkStart, WalkStep, BucketCall, Ask, Insert, Touch, Remove, PopMin, SetEntryEpoch, SetEpoch, AdvanceEpoch, DecayHalve, DecayHalveTimes, RebaseMinFreq, Clear, InsertBatch, TouchBatch, RemoveBatch, asks, calls}
+use Rattle.ledger.specs.Counts.{bucketLen, lenUpTo}
+use Rattle.ledger.specs.BucketCalls.{Query, PeekMin, MinFreq, Frequency, EntryEpoch, CurrentEpoch, Len, IsEmpty, Contains, WalkStart, WalkStep, BucketLen, LenUpTo, BucketCall, Ask, Insert, Touch, Remove, PopMin, SetEntryEpoch, SetEpoch, AdvanceEpoch, DecayHalve, DecayHalveTimes, RebaseMinFreq, Clear, InsertBatch, TouchBatch, RemoveBatch, asks, calls}
 use Rattle.ledger.proofs.Items.{found-in, found-none}
 use Rattle.ledger.proofs.Rising.{lowest-in}
 use Rattle.ledger.proofs.Changes.{new-formed, put-formed, release-formed, move-formed, raised-fits, epoch-formed, redated-formed}
@@ -25,7 +26,7 @@ by-found P (some x) a f n s = s x refl
 -- Queries leave the ledger
 
 pub queries-leave : (q : Query) (l : Ledger) → asks q l .1 ≡ l
-unfolding asks peekMin minFreq frequency entryEpoch currentEpoch len isEmpty contains
+unfolding asks peekMin minFreq frequency entryEpoch currentEpoch len isEmpty contains bucketLen lenUpTo
 queries-leave PeekMin l = by-found (λ (o : Outcome). o .1 ≡ l) (lowest (l .levels)) _ _ (λ e. refl) (λ x e. refl)
 queries-leave MinFreq l = by-found (λ (o : Outcome). o .1 ≡ l) (lowest (l .levels)) _ _ (λ e. refl) (λ x e. refl)
 queries-leave (Frequency k) l = by-found (λ (o : Outcome). o .1 ≡ l) (lookup k l) _ _ (λ e. refl) (λ x e. refl)
@@ -36,6 +37,8 @@ queries-leave IsEmpty l = refl
 queries-leave (Contains k) l = refl
 queries-leave (WalkStart f) l = refl
 queries-leave (WalkStep s) l = refl
+queries-leave (BucketLen f) l = refl
+queries-leave (LenUpTo f) l = refl
 
 -- Every call keeps what its changes keep
 

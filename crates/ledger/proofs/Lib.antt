@@ -21,3 +21,4 @@ pub mod FirstSentence
 pub mod Counted
 pub mod SecondSentence
 pub mod Split
+pub mod Counts

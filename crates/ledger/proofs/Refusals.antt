@@ -13,7 +13,8 @@ use Rattle.ledger.specs.Ledger.{Ledger, Item, items, lookup, ifFound, si
 use Rattle.ledger.specs.Buckets.{Outcome, done, refused, insertAs, insert, touch, remove, popMin, peekMin, minFreq, frequency, entryEpoch, setEntryEpoch, currentEpoch, setEpoch, advanceEpoch, len, isEmpty, contains, clear, insertBatch, touchBatch, removeBatch}
 use Rattle.ledger.specs.Regroup.{decayHalve, decayHalveTimes, rebaseMinFreq}
 use Rattle.ledger.specs.Walk.{Step, here, noMore, absent, stepReply, start, step}
-use Rattle.ledger.specs.BucketCalls.{Query, PeekMin, MinFreq, Frequency, EntryEpoch, CurrentEpoch, Len, IsEmpty, Contains, WalkStart, WalkStep, BucketCall, Ask, Insert, Touch, Remove, PopMin, SetEntryEpoch, SetEpoch, AdvanceEpoch, DecayHalve, DecayHalveTimes, RebaseMinFreq, Clear, InsertBatch, TouchBatch, RemoveBatch, asks, calls}
+use Rattle.ledger.specs.Counts.{bucketLen, lenUpTo}
+use Rattle.ledger.specs.BucketCalls.{Query, PeekMin, MinFreq, Frequency, EntryEpoch, CurrentEpoch, Len, IsEmpty, Contains, WalkStart, WalkStep, BucketLen, LenUpTo, BucketCall, Ask, Insert, Touch, Remove, PopMin, SetEntryEpoch, SetEpoch, AdvanceEpoch, DecayHalve, DecayHalveTimes, RebaseMinFreq, Clear, InsertBatch, TouchBatch, RemoveBatch, asks, calls}
 use Rattle.ledger.specs.Refusals.{Bound, Unbound, Refused, touches, removes, asksFrequency, asksEpoch, setsEpoch, steps, inserts, insertsInto, pops, peeks, asksLowest}
 use Rattle.ledger.proofs.Items.{found-in, found-none, none-found, in-keyed}
 use Rattle.ledger.proofs.Rising.{lowest-none, lowest-some}
@@ -117,7 +118,7 @@ module _ (l : Ledger) (w : WellFormed l) where
       let p = no-item (lowest (l .levels)) Empty a l ns m e in subst (Refused l c) (p .1) (r (empty-of (p .0)))
 
   asks-why : (q : Query) (a : Answer) → asks q l .0 ≡ refused a → Refused l (Ask q) a
-  unfolding asks peekMin minFreq frequency entryEpoch currentEpoch len isEmpty contains
+  unfolding asks peekMin minFreq frequency entryEpoch currentEpoch len isEmpty contains bucketLen lenUpTo
   asks-why PeekMin a e = needs-any (Ask PeekMin) a _ _ peeks e
   asks-why MinFreq a e = needs-any (Ask MinFreq) a _ _ asksLowest e
   asks-why (Frequency k) a e = needs-key k (Ask (Frequency k)) a _ _ (asksFrequency k) e
@@ -129,6 +130,8 @@ module _ (l : Ledger) (w : WellFormed l) where
   asks-why (WalkStart f) a e = absurd (start-done f a e)
   asks-why (WalkStep s) a e =
       let p = step-refused s (step s l) a e in subst (Refused l (Ask (WalkStep s))) (p .1) (steps s (step-absent l w s .0 (p .0)))
+  asks-why (BucketLen f) a e = done-refused _ a e
+  asks-why (LenUpTo f) a e = done-refused _ a e
 
   why : (c : BucketCall) (a : Answer) → calls c l .0 ≡ refused a → Refused l c a
   unfolding calls insert touch remove popMin setEntryEpoch setEpoch advanceEpoch clear decayHalve decayHalveTimes rebaseMinFreq insertBatch touchBatch removeBatch

@@ -5,6 +5,7 @@ use Rattle.ledger.specs.Ledger.{Ledger}
 use Rattle.ledger.specs.Buckets.{Outcome, Reply, insert, touch, remove, popMin, peekMin, minFreq, frequency, entryEpoch, setEntryEpoch, currentEpoch, setEpoch, advanceEpoch, len, isEmpty, contains, clear, insertBatch, touchBatch, removeBatch}
 use Rattle.ledger.specs.Regroup.{decayHalve, decayHalveTimes, rebaseMinFreq}
 use Rattle.ledger.specs.Walk.{stepReply, start, step}
+use Rattle.ledger.specs.Counts.{bucketLen, lenUpTo}
 
 -- the calls that only answer
 pub data Query : Type 0 where
@@ -18,6 +19,8 @@ pub data Query : Type 0 where
   Contains : (key : ℕ) → Query
   WalkStart : (frequency : ℕ) → Query
   WalkStep : (slot : ℕ) → Query
+  BucketLen : (frequency : ℕ) → Query
+  LenUpTo : (frequency : ℕ) → Query
 
 pub data BucketCall : Type 0 where
   Ask : Query → BucketCall
@@ -47,6 +50,8 @@ asks IsEmpty l = isEmpty l
 asks (Contains k) l = contains k l
 asks (WalkStart f) l = (stepReply (start f l), l)
 asks (WalkStep s) l = (stepReply (step s l), l)
+asks (BucketLen f) l = bucketLen f l
+asks (LenUpTo f) l = lenUpTo f l
 
 unfoldable pub calls : BucketCall → Ledger → Outcome
 calls (Ask q) l = asks q l

@@ -2,6 +2,7 @@ pub mod Ledger
 pub mod Buckets
 pub mod OldTouches
 pub mod Walk
+pub mod Counts
 pub mod Regroup
 pub mod BucketCalls
 pub mod Rests

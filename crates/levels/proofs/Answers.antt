@@ -1,6 +1,6 @@
 -- What the tests of the calls say of the levels.
 use mathlib.Core.Path.{_≡_, refl, sym, ap, _∙_, subst}
-use mathlib.Core.Bool.{Bool, true, false}
+use mathlib.Core.Bool.{Bool, true, false, cond}
 use mathlib.Core.Logic.{_≢_, _↔_}
 use mathlib.Core.List.{List, [], _∷_, _++_}
 use Prim.Native.Nat.{ℕ, _<_, _≤_}
@@ -17,18 +17,18 @@ use Rattle.links.specs.declared.Ends.{Ends}
 use Rattle.links.proofs.Functions.{look-end}
 use Rattle.links.proofs.Lists.{ring-tail}
 use Rattle.bucket_table.specs.declared.Buckets.{Buckets}
-use Rattle.bucket_table.specs.Records.{nums, frequency, higher, head, tail, up, InTable, Spot, RecordsHold, RowsRise}
+use Rattle.bucket_table.specs.Records.{nums, frequency, higher, head, tail, up, InTable, Spot, RecordsHold, RowsRise, empty, count, EndsAt}
 use Rattle.bucket_table.specs.Calls.{HasLevel, PlacesRecord}
 use Rattle.bucket_table.proofs.Rows.{rising-around, rising-above, at-spot, above-spot, above-none, above-row, row-some}
-use Rattle.levels.specs.Levels.{Level, first, lowest, lowestFrequency, headOf}
+use Rattle.levels.specs.Levels.{Level, first, lowest, lowestFrequency, headOf, slotList}
 use Rattle.levels.specs.Held.{Tabs, tabs, Line, rows, view, Lines, Held}
-use Rattle.levels.specs.Calls.{InPlace, SoundWith, Lowest, LowestFrequency, Heads}
+use Rattle.levels.specs.Calls.{InPlace, SoundWith, Lowest, LowestFrequency, Heads, LevelEnds, Counts}
 use Rattle.levels.proofs.Lines.{rows-append, view-append, all-view, rows-all, all-rows, lines-room, records-mid, line-in, number-in, written}
 
 pub no-answer : {A : Type 0} → false ≡ true → A
 no-answer q = absurd (neither false q refl)
 
-pub in-place : (b : List ℕ) (s : Buckets) (r g : ℕ) (e : Ends) (n : ℕ) (t : Bool) → (e .head ≡ head b r) × (e .tail ≡ tail b r) → e .head ≡ e .tail → n ≡ up b s r → (t ≡ true) ↔ HasLevel b n g → t ≡ false
+pub in-place : (b : List ℕ) (s : Buckets) (r g : ℕ) (e : Ends) (n : ℕ) (t : Bool) → EndsAt b r e → e .head ≡ e .tail → n ≡ up b s r → (t ≡ true) ↔ HasLevel b n g → t ≡ false
     → InPlace b s r g
 in-place b s r g e n t read q en l nay = record { lone = sym (read .0) ∙ q ∙ read .1; gap = λ h. said-no (HasLevel b n g) l nay (rw en h) }
 
@@ -47,6 +47,9 @@ module _ (t : Tabs) (s : Buckets) (us : List Line) (l : Line) (vs : List Line) (
 
   pub tail-is : tail (t .buckets) (l .row .num) ≡ final NONE (l .slots)
   tail-is = written t s us l vs h .tail-is ∙ ring-tail (linked (t .prevs) (t .nexts) (l .row .ends)) (lines-room t s (us ++ l ∷ vs) h) (l .slots) (line-in t s us l vs h .ring)
+
+  pub count-is : count (t .buckets) (l .row .num) ≡ length (l .slots)
+  count-is = written t s us l vs h .count-is ∙ line-in t s us l vs h .ring .many
 
 -- ---- `lowest` and `lowest_frequency`
 
@@ -99,15 +102,23 @@ module _ (b : List ℕ) (s : Buckets) where
   pub low-in : SoundWith b s → s .bottom ≢ NONE → InTable b (s .bottom)
   low-in k ne = bottom-in (tabs (k .0) (k .1) (k .2) b (k .3)) s (k .4 .0) (k .4 .1) ne
 
--- ---- `head`
+-- ---- `level_ends`, `head` and `count`
 
-head-skip : (g : ℕ) (us vs : List Level) → All (λ l. l .freq < g) us → headOf g (us ++ vs) ≡ headOf g vs
-head-skip g [] vs h = refl
-head-skip g (u ∷ us) vs h = let l = h .0 in if-other (u .freq) g (first (u .slots)) (headOf g (us ++ vs)) (omega arith) ∙ head-skip g us vs (h .1)
+pub head-slots : (g : ℕ) (ls : List Level) → headOf g ls ≡ first (slotList g ls)
+head-slots g [] = refl
+head-slots g (l ∷ ls) = go (eqb (l .freq) g) (head-slots g ls)
+  where
+    go : (c : Bool) → headOf g ls ≡ first (slotList g ls) → cond c (first (l .slots)) (headOf g ls) ≡ first (cond c (l .slots) (slotList g ls))
+    go true e = refl
+    go false e = e
 
-head-none : (g : ℕ) (vs : List Level) → All (λ l. g < l .freq) vs → headOf g vs ≡ NONE
-head-none g [] h = refl
-head-none g (v ∷ vs) h = let l = h .0 in if-other (v .freq) g (first (v .slots)) (headOf g vs) (omega arith) ∙ head-none g vs (h .1)
+slots-skip : (g : ℕ) (us vs : List Level) → All (λ l. l .freq < g) us → slotList g (us ++ vs) ≡ slotList g vs
+slots-skip g [] vs h = refl
+slots-skip g (u ∷ us) vs h = let l = h .0 in if-other (u .freq) g (u .slots) (slotList g (us ++ vs)) (omega arith) ∙ slots-skip g us vs (h .1)
+
+slots-none : (g : ℕ) (vs : List Level) → All (λ l. g < l .freq) vs → slotList g vs ≡ []
+slots-none g [] h = refl
+slots-none g (v ∷ vs) h = let l = h .0 in if-other (v .freq) g (v .slots) (slotList g vs) (omega arith) ∙ slots-none g vs (h .1)
 
 -- lines whose frequencies rise, parted at g
 cut : (g low : ℕ) (ls : List Line) → RowsRise low (rows ls) → (us : List Line) × (vs : List Line) × (ls ≡ us ++ vs) × All (λ l. l .row .freq < g) us × All (λ l. g ≤ l .row .freq) vs
@@ -153,38 +164,48 @@ module _ (b : List ℕ) (s : Buckets) (g at n : ℕ) (pl : PlacesRecord b s g at
       let h : RecordsHold b (k .3) s (rows (q .lower) ++ rows (q .upper)) = rw (rows-append (q .lower) (q .upper)) at (q .rep .records) in
       (rw (q .place) (at-spot b (k .3) s (rows (q .lower)) (rows (q .upper)) h), rw (en, q .place) (above-spot b (k .3) s (rows (q .lower)) (rows (q .upper)) h))
 
-  -- the first line from g on, if there is one, is that of record n
-  head-by : (t : Tabs) → t .buckets ≡ b → (v : ℕ) → (n ≡ NONE → v ≡ NONE)
-      → ((us : List Line) (l : Line) (vs : List Line) → Lines t s (us ++ l ∷ vs) → n ≡ l .row .num → g ≤ l .row .freq → v ≡ headOf g (view (l ∷ vs))) → (ls : List Level) → Held t s ls → v ≡ headOf g ls
-  head-by t eb v none some ls h =
+  -- what is said of the slots of level g: the first line from g on, if there is one, is that of record n
+  slots-by : (t : Tabs) → t .buckets ≡ b → (P : List ℕ → Type 0) → (n ≡ NONE → P [])
+      → ((us : List Line) (l : Line) (vs : List Line) → Lines t s (us ++ l ∷ vs) → n ≡ l .row .num → g ≤ l .row .freq → P (slotList g (view (l ∷ vs))))
+      → (ls : List Level) → Held t s ls → P (slotList g ls)
+  slots-by t eb P none some ls h =
       let q = part t s g at (subst (λ (c : List ℕ). PlacesRecord c s g at) (sym eb) pl) ls h in
       let en' : n ≡ up (t .buckets) s (final NONE (nums (rows (q .lower)))) = en ∙ ap (λ (c : List ℕ). up c s at) (sym eb) ∙ ap (up (t .buckets) s) (q .place) in
-      go (q .upper) (q .lower) (q .rep) (q .from) en' ∙ sym (head-skip g (view (q .lower)) (view (q .upper)) (q .below)) ∙ ap (headOf g) (q .seen)
+      subst P (sym (slots-skip g (view (q .lower)) (view (q .upper)) (q .below)) ∙ ap (slotList g) (q .seen))
+      (go (q .upper) (q .lower) (q .rep) (q .from) en')
     where
-      go : (vs us : List Line) → Lines t s (us ++ vs) → All (λ l. g ≤ l .row .freq) vs → n ≡ up (t .buckets) s (final NONE (nums (rows us))) → v ≡ headOf g (view vs)
+      go : (vs us : List Line) → Lines t s (us ++ vs) → All (λ l. g ≤ l .row .freq) vs → n ≡ up (t .buckets) s (final NONE (nums (rows us))) → P (slotList g (view vs))
       go [] us k a e = none (e ∙ above-none (t .buckets) (t .spares) s (rows us) (rw (rows-append us []) at (k .records)))
       go (l ∷ vs) us k a e = some us l vs k (e ∙ above-row (t .buckets) (t .spares) s (rows us) (l .row) (rows vs) (records-mid t s us l vs k)) (a .0)
 
-  pub heads-there : HasLevel b n g → (v : ℕ) → v ≡ head b n → Heads b s g v
-  heads-there lv v ev = record {
-    answer = λ f p n' sp.
-        head-by (tabs f p n' b sp) refl v (λ q. absurd (lv .0 q))
-        (λ us l vs h e le.
-        let w = written (tabs f p n' b sp) s us l vs h .freq-is in
-        ev ∙ ap (head b) e ∙ head-is (tabs f p n' b sp) s us l vs h
-        ∙ sym (if-same (l .row .freq) g (first (l .slots)) (headOf g (view vs)) (sym w ∙ ap (frequency b) (sym e) ∙ lv .1)));
-  }
-
-  pub heads-none : (HasLevel b n g → ⊥) → Heads b s g NONE
-  heads-none lv = record {
+  pub ends-there : HasLevel b n g → (e : Ends) → EndsAt b n e → LevelEnds b s g e
+  ends-there lv e read = record {
     answer = λ f p n' sp.
         let t = tabs f p n' b sp in
-        head-by t refl NONE (λ q. refl)
+        slots-by t refl (λ zs. (e .head ≡ first zs) × (e .count ≡ length zs)) (λ q. absurd (lv .0 q))
+        (λ us l vs h en le.
+        let w = written t s us l vs h .freq-is in
+        rw (if-same (l .row .freq) g (l .slots) (slotList g (view vs)) (sym w ∙ ap (frequency b) (sym en) ∙ lv .1))
+        (read .0 ∙ ap (head b) en ∙ head-is t s us l vs h, read .2 ∙ ap (count b) en ∙ count-is t s us l vs h));
+  }
+
+  pub ends-none : (HasLevel b n g → ⊥) → LevelEnds b s g empty
+  ends-none lv = record {
+    answer = λ f p n' sp.
+        let t = tabs f p n' b sp in
+        slots-by t refl (λ zs. (NONE ≡ first zs) × (0 ≡ length zs)) (λ q. (refl, refl))
         (λ us l vs h e le.
         let w = written t s us l vs h .freq-is in
         let hs = records-mid t s us l vs h in
         let ne : l .row .freq ≢ g = λ q. lv ((λ z. row-some b sp s (rows us) (l .row) (rows vs) hs (sym e ∙ z)), ap (frequency b) e ∙ w ∙ q) in
         let above = rising-around 0 (rows us) (l .row) (rows vs) (hs .rising) .3 in
         let rest = all-map (λ v. l .row .freq < v .freq) (λ v. g < v .freq) (λ v q. omega arith) (rows vs) above in
-        sym (head-none g (view (l ∷ vs)) (omega arith, all-view (λ k. g < k .freq) vs (view vs) refl (all-rows (λ v. g < v .freq) vs rest))));
+        let z = slots-none g (view (l ∷ vs)) (omega arith, all-view (λ k. g < k .freq) vs (view vs) refl (all-rows (λ v. g < v .freq) vs rest)) in
+        (ap first (sym z), ap length (sym z)));
   }
+
+pub heads : (b : List ℕ) (s : Buckets) (g : ℕ) (e : Ends) → LevelEnds b s g e → Heads b s g (e .head)
+heads b s g e l = record { answer = λ f p n sp ls h. l .answer f p n sp ls h .0 ∙ sym (head-slots g ls) }
+
+pub counts : (b : List ℕ) (s : Buckets) (g : ℕ) (e : Ends) → LevelEnds b s g e → Counts b s g (e .count)
+counts b s g e l = record { answer = λ f p n sp ls h. l .answer f p n sp ls h .1 }

@@ -37,7 +37,7 @@ same-lines f p n b b' e ls h =
 
 -- a line with no slot
 no-slots : (f p n b : List ℕ) (r g : ℕ) → LineHeld f p n b (line (row r g empty) [])
-no-slots f p n b r g = record { ring = record { slots = tt; links = (look-end (λ k. getD n k 0) NONE, look-end (λ k. getD p k 0) NONE) }; own = tt }
+no-slots f p n b r g = record { ring = record { slots = tt; links = (look-end (λ k. getD n k 0) NONE, look-end (λ k. getD p k 0) NONE); many = refl }; own = tt }
 
 -- a slot that is in no level is in no line
 parted-away : (t : Tabs) (s : Buckets) (at₀ : ℕ) (us vs : List Level) (k : Parted t s at₀ us vs) (x : ℕ) → Nowhere x (us ++ vs) → Missing x (k .lower ++ k .upper)

@@ -14,7 +14,7 @@ use Rattle.links.specs.declared.Ends.{Ends}
 use Rattle.links.proofs.Functions.{look-end, upd-same, upd-other}
 use Rattle.links.proofs.Lists.{ring-once, ring-frame}
 use Rattle.bucket_table.specs.declared.Buckets.{Buckets}
-use Rattle.bucket_table.specs.Records.{Row, row, nums, head, tail, lower, owner, InTable, RecordsHold}
+use Rattle.bucket_table.specs.Records.{Row, row, nums, lower, owner, InTable, EndsAt, RecordsHold}
 use Rattle.bucket_table.specs.Calls.{SetEnds, Dropping, Drops}
 use Rattle.bucket_table.proofs.Rows.{nums-append, row-used, below-row, room}
 use Rattle.levels.specs.Levels.{Level, level, Nowhere, keep}
@@ -83,7 +83,7 @@ keep-away : (x f : ℕ) (zs : List ℕ) → Without x zs → Nowhere x (keep f z
 keep-away x f [] w = tt
 keep-away x f (z ∷ zs) w = (w, tt)
 
-module _ (f p n b sp : List ℕ) (s : Buckets) (r x : ℕ) (er : r ≡ owner b x) (e₀ : Ends) (read : (e₀ .head ≡ head b r) × (e₀ .tail ≡ tail b r)) (p₁ n₁ : List ℕ) (d : Ends)
+module _ (f p n b sp : List ℕ) (s : Buckets) (r x : ℕ) (er : r ≡ owner b x) (e₀ : Ends) (read : EndsAt b r e₀) (p₁ n₁ : List ℕ) (d : Ends)
     (un : Unlinked (linked p n e₀) x (linked p₁ n₁ d)) (f' p' n' : List ℕ) (fr : Frees f p₁ n₁ x f' p' n') where
   abbrev t₀ : Tabs
   t₀ = tabs f p n b sp

@@ -5,5 +5,6 @@ pub mod Leave
 pub mod Enter
 pub mod Calls
 pub mod Answers
+pub mod Counting
 pub mod Walks
 pub mod Checks

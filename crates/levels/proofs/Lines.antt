@@ -3,15 +3,14 @@
 use mathlib.Core.Path.{_≡_, refl, sym, ap, _∙_, subst}
 use mathlib.Core.Logic.{_≢_}
 use mathlib.Core.List.{List, [], _∷_, _++_, map-append}
-use mathlib.Core.Bool.{false}
 use Prim.Native.Nat.{ℕ, _<_, _≤_}
 use native.Mathlib.Omega.{arith}
 use lib.ListN.{length, getD, length-append}
 use Rattle.numbers.specs.Marks.{NONE}
 use Rattle.lists.specs.Lists.{All, Without, Distinct}
-use Rattle.lists.proofs.Members.{all-any, all-map, all-both, all-mid, all-put, all-append, all-left, all-right, distinct-append}
+use Rattle.lists.proofs.Members.{all-map, all-both, all-mid, all-put, all-append, all-left, all-right, distinct-append}
 use Rattle.lists.proofs.Maps.{images-all, all-images, length-images, map-cons, map-parts}
-use Rattle.lists.proofs.Pigeonhole.{pigeon}
+use Rattle.lists.proofs.Pigeonhole.{distinct-few}
 use Rattle.links.specs.Linked.{Kept, linked}
 use Rattle.links.specs.declared.Ends.{Ends}
 use Rattle.links.proofs.Lists.{ring-distinct, ring-frame}
@@ -243,13 +242,16 @@ module _ (t : Tabs) (s : Buckets) (ls : List Line) (h : Lines t s ls) where
   pub lines-below : All (λ x. x < length (t .freqs)) (members (view ls))
   lines-below = rw (h .even .prevs-size) at (slots-below t ls (h .each))
 
+  pub lines-few : length (members (view ls)) ≤ length (t .freqs)
+  lines-few = distinct-few (length (t .freqs)) (members (view ls)) lines-distinct lines-below
+
   -- while a slot is in no line, there are fewer lines than slots
   pub lines-fewer : All Some ls → (x : ℕ) → x < length (t .freqs) → Missing x ls → length (nums (rows ls)) < length (t .spares)
   lines-fewer some x l w =
       let z = h .spares-size in
       omega (
         arith,
-        pigeon (λ k. false) (length (t .freqs)) (x ∷ members (view ls)) (missing-members x ls w, lines-distinct) (l, lines-below) (all-any (λ k. false ≡ false) (λ k. refl) (x ∷ members (view ls))),
+        distinct-few (length (t .freqs)) (x ∷ members (view ls)) (missing-members x ls w, lines-distinct) (l, lines-below),
         many-slots ls some,
         length-images (λ (w : Row). w .num) (rows ls),
         length-images (λ (k : Line). k .row) ls,

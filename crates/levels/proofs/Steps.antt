@@ -15,7 +15,7 @@ use Rattle.links.specs.Linked.{Fits, Pushed, Moved, linked}
 use Rattle.links.specs.declared.Ends.{Ends}
 use Rattle.links.proofs.Functions.{upd-same, upd-other, cells-upd}
 use Rattle.bucket_table.specs.declared.Buckets.{Buckets}
-use Rattle.bucket_table.specs.Records.{Row, row, head, tail, owner, Written}
+use Rattle.bucket_table.specs.Records.{Row, row, owner, EndsAt, Written}
 use Rattle.bucket_table.specs.Calls.{SetEnds, SetOwner, Raises, RecordsReset}
 use Rattle.levels.specs.Levels.{level}
 use Rattle.levels.specs.Held.{Tabs, tabs, Line, line, rows, Missing, Free, Even, Lines, Some}
@@ -27,8 +27,8 @@ pub at : (f g : ℕ → ℕ) (k : ℕ) → f ≡ g → f k ≡ g k
 at f g k e = ap (λ (h : ℕ → ℕ). h k) e
 
 -- the ends that were read are the row's
-pub ends-are : (b : List ℕ) (w : Row) (e : Ends) → Written b w → (e .head ≡ head b (w .num)) × (e .tail ≡ tail b (w .num)) → e ≡ w .ends
-ends-are b w e m h = λ i. record { head = (h .0 ∙ m .head-is) i; tail = (h .1 ∙ m .tail-is) i }
+pub ends-are : (b : List ℕ) (w : Row) (e : Ends) → Written b w → EndsAt b (w .num) e → e ≡ w .ends
+ends-are b w e m h = λ i. record { head = (h .0 ∙ m .head-is) i; tail = (h .1 ∙ m .tail-is) i; count = (h .2 ∙ m .count-is) i }
 
 -- ---- `free`
 
@@ -44,7 +44,7 @@ freed f p n x h l =
 
 -- ---- `attach`
 
-module _ (f p n b : List ℕ) (r g x : ℕ) (pre : Attaching f p n b r x) (e₀ : Ends) (read : (e₀ .head ≡ head b r) × (e₀ .tail ≡ tail b r)) (p' n' : List ℕ) (d : Ends)
+module _ (f p n b : List ℕ) (r g x : ℕ) (pre : Attaching f p n b r x) (e₀ : Ends) (read : EndsAt b r e₀) (p' n' : List ℕ) (d : Ends)
     (pu : Pushed (linked p n e₀) x (linked p' n' d)) (b₁ b' : List ℕ) (se : SetEnds b r d b₁) (so : SetOwner b₁ x r b') where
   abbrev f' : List ℕ
   f' = set f x g
@@ -104,7 +104,7 @@ module _ (f p n b : List ℕ) (r g x : ℕ) (pre : Attaching f p n b r x) (e₀ 
 
 -- ---- `front`
 
-module _ (p n b : List ℕ) (r x : ℕ) (e₀ : Ends) (read : (e₀ .head ≡ head b r) × (e₀ .tail ≡ tail b r)) (p' n' : List ℕ) (d : Ends)
+module _ (p n b : List ℕ) (r x : ℕ) (e₀ : Ends) (read : EndsAt b r e₀) (p' n' : List ℕ) (d : Ends)
     (mv : Moved (linked p n e₀) x (linked p' n' d)) (b' : List ℕ) (se : SetEnds b r d b') where
   module _ (f sp : List ℕ) (s : Buckets) (us : List Line) (g : ℕ) (e : Ends) (xs ys : List ℕ) (vs : List Line) (h : Lines (tabs f p n b sp) s (us ++ line (row r g e) (xs ++ x ∷ ys) ∷ vs)) where
     abbrev m₀ : Tabs

@@ -17,7 +17,7 @@ use Rattle.links.specs.Linked.{next, prev, Linked, linked}
 use Rattle.links.proofs.Functions.{look-end, look-at}
 use Rattle.links.proofs.Lists.{ring-clear}
 use Rattle.links.proofs.Walks.{Walk, walk-start, walk-on, walk-next, walk-end, walk-whole}
-use Rattle.bucket_table.specs.Records.{frequency, head, tail, owner, rowOf, InTable}
+use Rattle.bucket_table.specs.Records.{frequency, head, tail, count, owner, rowOf, InTable}
 use Rattle.levels.specs.Check.{SlotOk, ListWalk, LevelsSized, ListedSo}
 
 -- ---- one slot
@@ -104,8 +104,14 @@ module _ (f p n b : List ℕ) (r : ℕ) where
         go [] a q l = omega arith
         go (y ∷ ys) a q l = let k = final-in (λ i. i < length p) y ys (a .0 .0) (all-map Fine (λ i. i < length p) (λ i o. o .0) ys (a .1)) in let c = room in omega arith
 
-    pub list-done : x ≡ NONE → at ≢ NONE → (tl : ℕ) → tl ≡ tail b r → ListWalk f p n b r left (record { ok = eqb tl at; left = m })
-    list-done e na tl et = record {
+    -- a list that there may be was passed whole, and has as many slots as were taken from `left`
+    pub list-miscounted : x ≡ NONE → (ct : ℕ) → ct ≡ count b r → ct ≢ left - m → ListWalk f p n b r left (record { ok = false; left = 0 })
+    list-miscounted e ct ec ne =
+        refuse (λ xs h l. let c = w .spent in let k = ap length (whole e xs h .0) in let q = h .held .ring .many in ne (ec ∙ q ∙ omega arith))
+
+    pub list-done : x ≡ NONE → at ≢ NONE → (ct : ℕ) → ct ≡ count b r → ct ≡ left - m → (tl : ℕ) → tl ≡ tail b r
+        → ListWalk f p n b r left (record { ok = eqb tl at; left = m })
+    list-done e na ct ec em tl et = record {
       good = λ q.
           let c = w .spent in (
             w .passed,
@@ -114,6 +120,7 @@ module _ (f p n b : List ℕ) (r : ℕ) where
                 ring = record {
                   slots = all-map Fine (λ i. i < length p) (λ i o. o .0) (w .passed) (w .fine);
                   links = walk-end (next Here) (prev Here) (w .passed) at x (w .walk) e (look-end (λ k. getD p k 0) (tail b r) ∙ sym et ∙ eqb-true tl at q);
+                  many = sym ec ∙ em ∙ omega arith;
                 };
                 own = all-map Fine (λ y. (getD f y 0 ≡ frequency b r) × (owner b y ≡ r)) (λ y o. (o .1, o .2)) (w .passed) (w .fine);
               };

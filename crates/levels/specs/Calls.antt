@@ -14,7 +14,7 @@ use Rattle.bucket_table.specs.Records.{WORDS, head, tail, owner, up, InTable, r
 use Rattle.bucket_table.specs.Calls.{HasLevel}
 use Rattle.levels.specs.declared.Touched.{Touched}
 use Rattle.levels.specs.declared.Left.{Left}
-use Rattle.levels.specs.Levels.{Level, level, Nowhere, keep, join, touched, lowest, lowestFrequency, headOf}
+use Rattle.levels.specs.Levels.{Level, level, Nowhere, keep, join, touched, first, lowest, lowestFrequency, headOf, slotList, countOf, countUpTo}
 use Rattle.levels.specs.Held.{Tabs, tabs, Line, line, Missing, Lines, Held, Parted, LevelsSound}
 
 -- ---- parts of the calls
@@ -127,6 +127,17 @@ pub record LowestFrequency (b : List ℕ) (s : Buckets) (r : ℕ) : Type 0 where
 
 pub record Heads (b : List ℕ) (s : Buckets) (g r : ℕ) : Type 0 where
   pub answer : (f p n sp : List ℕ) (ls : List Level) → Held (tabs f p n b sp) s ls → r ≡ headOf g ls
+
+-- the ends of the list of frequency g, those of an empty one where the level is not in use
+pub record LevelEnds (b : List ℕ) (s : Buckets) (g : ℕ) (e : Ends) : Type 0 where
+  pub answer : (f p n sp : List ℕ) (ls : List Level) → Held (tabs f p n b sp) s ls
+      → (e .head ≡ first (slotList g ls)) × (e .count ≡ length (slotList g ls))
+
+pub record Counts (b : List ℕ) (s : Buckets) (g r : ℕ) : Type 0 where
+  pub answer : (f p n sp : List ℕ) (ls : List Level) → Held (tabs f p n b sp) s ls → r ≡ countOf g ls
+
+pub record CountsUpTo (b : List ℕ) (s : Buckets) (g r : ℕ) : Type 0 where
+  pub answer : (f p n sp : List ℕ) (ls : List Level) → Held (tabs f p n b sp) s ls → r ≡ countUpTo g ls
 
 -- no level is in use, whatever the tables held
 pub record LevelsReset (f f' p' n' sp' : List ℕ) (s : Buckets) : Type 0 where

@@ -3,10 +3,10 @@ use mathlib.Core.Bool.{cond}
 use mathlib.Core.List.{List, [], _∷_, _++_}
 use Prim.Native.Nat.{ℕ, _+_, _<_, _≤_}
 use lib.ListN.{length}
-use lib.Dec.{eqb, ltb}
+use lib.Dec.{eqb, ltb, leb}
 use Rattle.numbers.specs.Marks.{NONE}
 use Rattle.numbers.specs.Frequency.{CEILING}
-use Rattle.lists.specs.Lists.{All, Without, final}
+use Rattle.lists.specs.Lists.{All, Without, final, sum}
 
 -- a frequency, and the slots that have it, head first
 pub record Level : Type 0 where
@@ -64,3 +64,16 @@ lowestFrequency (l ∷ ls) = l .freq
 abbrev pub headOf : ℕ → List Level → ℕ
 headOf f [] = NONE
 headOf f (l ∷ ls) = cond (eqb (l .freq) f) (first (l .slots)) (headOf f ls)
+
+-- the slots of level f, none where it is not in use
+abbrev pub slotList : ℕ → List Level → List ℕ
+slotList f [] = []
+slotList f (l ∷ ls) = cond (eqb (l .freq) f) (l .slots) (slotList f ls)
+
+-- how many slots level f has, 0 where it is not in use
+abbrev pub countOf : ℕ → List Level → ℕ
+countOf f ls = length (slotList f ls)
+
+-- how many slots lie at or below f: those of all levels up to f
+abbrev pub countUpTo : ℕ → List Level → ℕ
+countUpTo f ls = sum (λ l. cond (leb (l .freq) f) (length (l .slots)) 0) ls

@@ -118,7 +118,7 @@ fn slot_ok(
     bucket_table::sound::owner(buckets, Slot(slot)) == number
 }
 
-// Walks the list of a record, of at most `left` slots.
+// Walks the list of a record, of at most `left` slots, which is to have as many as the record says.
 fn walk_list(
     freqs: &[u64],
     prevs: &[u64],
@@ -147,6 +147,10 @@ fn walk_list(
         n -= 1;
     }
     if at == NONE {
+        return Walked { ok: false, left: 0 };
+    }
+    let found = left - n;
+    if ends.count != found {
         return Walked { ok: false, left: 0 };
     }
     Walked {

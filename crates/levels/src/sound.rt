@@ -1,4 +1,4 @@
-// The calls on levels that are known to be sound: they check nothing. All but `head` and `reset` take a few steps.
+// The calls on levels that are known to be sound: they check nothing. All but `head`, `reset` and the counts take a few steps.
 ghost use mathlib.Core.Path.{_≡_};
 ghost use mathlib.Core.Bool.{true};
 ghost use Prim.Native.Nat.{_<_};
@@ -7,7 +7,7 @@ ghost use Rattle.links.specs.Linked.{Fits};
 ghost use Rattle.bucket_table.specs.Records.{up, InTable, Spot};
 ghost use Rattle.levels.specs.Held.{Even};
 ghost use Rattle.levels.specs.Slices.{lent, before, after};
-ghost use Rattle.levels.specs.Calls.{Frees, Attaching, Attaches, Fronts, InPlace, Lifts, Leaving, Ready, Binding, Unbinds, SoundWith, Lowest, LowestFrequency, Heads, SlotBound, LevelTouches, LevelRestarts, LevelBinds, LevelLeaves, LevelEnters, LevelsReset};
+ghost use Rattle.levels.specs.Calls.{Frees, Attaching, Attaches, Fronts, InPlace, Lifts, Leaving, Ready, Binding, Unbinds, SoundWith, Lowest, LowestFrequency, Heads, SlotBound, LevelTouches, LevelRestarts, LevelBinds, LevelLeaves, LevelEnters, LevelsReset, LevelEnds, Counts, CountsUpTo};
 use crate::Left;
 use crate::Touched;
 use bucket_table::Buckets;
@@ -281,18 +281,58 @@ pub fn lowest_frequency(buckets: &[u64], state: Buckets) -> Frequency
     bucket_table::sound::frequency(buckets, number)
 }
 
+// The ends of the list of a frequency, those of an empty list where it is not in use. A step for each level below.
+fn level_ends(buckets: &[u64], state: Buckets, frequency: Frequency) -> links::Ends
+    requires { ⌜ SoundWith (now buckets) state ⌝ }
+    ensures { λ r. ⌜ LevelEnds (now (buckets .entry)) state (frequency .0) r ⌝ }
+{
+    let at = bucket_table::sound::place(buckets, state, frequency);
+    let number = bucket_table::sound::above(buckets, state, at);
+    if bucket_table::sound::is_level(buckets, number, frequency) {
+        return bucket_table::sound::ends(buckets, number);
+    }
+    links::Ends {
+        head: NONE,
+        tail: NONE,
+        count: 0,
+    }
+}
+
 // The slot at the head of the level of a frequency, NONE where it is not in use. A step for each level below.
 pub fn head(buckets: &[u64], state: Buckets, frequency: Frequency) -> Slot
     requires { ⌜ SoundWith (now buckets) state ⌝ }
     ensures { λ r. ⌜ Heads (now (buckets .entry)) state (frequency .0) (r .0) ⌝ }
 {
-    let at = bucket_table::sound::place(buckets, state, frequency);
-    let number = bucket_table::sound::above(buckets, state, at);
-    if bucket_table::sound::is_level(buckets, number, frequency) {
+    let ends = level_ends(buckets, state, frequency);
+    Slot(ends.head)
+}
+
+// How many slots the level of a frequency has, 0 where it is not in use. A step for each level below.
+pub fn count(buckets: &[u64], state: Buckets, frequency: Frequency) -> u64
+    requires { ⌜ SoundWith (now buckets) state ⌝ }
+    ensures { λ r. ⌜ Counts (now (buckets .entry)) state (frequency .0) r ⌝ }
+{
+    let ends = level_ends(buckets, state, frequency);
+    ends.count
+}
+
+// How many slots lie at or below a frequency. A step for each level there.
+pub fn count_up_to(buckets: &[u64], state: Buckets, frequency: Frequency) -> u64
+    requires { ⌜ SoundWith (now buckets) state ⌝ }
+    ensures { λ r. ⌜ CountsUpTo (now (buckets .entry)) state (frequency .0) r ⌝ }
+{
+    let mut counted: u64 = 0;
+    let mut number = state.bottom;
+    while number != NONE {
+        let f = bucket_table::sound::frequency(buckets, number);
+        if f.0 > frequency.0 {
+            return counted;
+        }
         let ends = bucket_table::sound::ends(buckets, number);
-        return Slot(ends.head);
+        counted += ends.count;
+        number = bucket_table::sound::above(buckets, state, number);
     }
-    Slot(NONE)
+    counted
 }
 
 // The slot after one in its list, NONE at the tail.

@@ -1,7 +1,6 @@
 -- Laws of chains. What carries them: one head has one chain, so no member can be met again further on, since the chain from it would be shorter than itself.
 use mathlib.Core.Path.{_≡_, refl, sym, ap, _∙_, subst}
 use mathlib.Core.Logic.{_⊎_, inl, inr, _≢_}
-use mathlib.Core.Bool.{false}
 use mathlib.Core.List.{List, [], _∷_, _++_, append-assoc, append-nil}
 use Prim.Native.Nat.{ℕ, _≤_, _<_}
 use native.Mathlib.Omega.{arith}
@@ -10,7 +9,7 @@ use lib.Seq.{getD-set-same, getD-set-other}
 use Rattle.numbers.specs.Marks.{NONE}
 use Rattle.lists.specs.Lists.{All, Without, Distinct, final}
 use Rattle.lists.proofs.Members.{all-map, all-any, final-in}
-use Rattle.lists.proofs.Pigeonhole.{pigeon}
+use Rattle.lists.proofs.Pigeonhole.{distinct-few}
 use Rattle.links.specs.Chain.{Chain, Walked, cells}
 
 -- another function that agrees on the members has the same chain
@@ -98,8 +97,7 @@ module _ (size : ℕ) (n : ℕ → ℕ) (limit : size ≤ NONE) where
   )
 
   pub chain-length : (f : ℕ) (xs : List ℕ) → Chain size n f xs → length xs ≤ size
-  chain-length f xs p =
-      omega (arith, pigeon (λ k. false) size xs (chain-distinct f xs p) (chain-below size n f xs p) (all-any (λ x. false ≡ false) (λ x. refl) xs))
+  chain-length f xs p = distinct-few size xs (chain-distinct f xs p) (chain-below size n f xs p)
 
   pub walk-more : (f : ℕ) (us : List ℕ) (at : ℕ) → at < size → Walking size n f us at → Walking size n f (us ++ at ∷ []) (n at)
   walk-more f us at b w = record {

@@ -2,12 +2,15 @@
 use mathlib.Core.Path.{_≡_, refl, sym, _∙_}
 use mathlib.Core.Logic.{_≢_, _⊎_, inl, inr, ⊎-elim}
 use mathlib.Core.List.{List, _∷_, _++_}
-use Prim.Native.Nat.{ℕ, _<_, _≤_}
+use Prim.Native.Nat.{ℕ, _+_, _%_, _^_, _<_, _≤_}
+use native.Mathlib.Nat.{mod-eq-of-lt}
 use native.Mathlib.Omega.{arith}
-use lib.ListN.{length, getD, set, length-set}
+use lib.ListN.{length, getD, set, length-set, length-append}
 use lib.Seq.{getD-set-other}
 use Rattle.numbers.specs.Marks.{NONE}
 use Rattle.lists.specs.Lists.{All, In, Without, Distinct, final}
+use Rattle.lists.proofs.Tests.{by-lt}
+use Rattle.lists.proofs.Pigeonhole.{distinct-few}
 use Rattle.lists.proofs.Members.{all-map, all-both, all-mid, all-in, all-of}
 use Rattle.links.specs.Chain.{cells}
 use Rattle.links.specs.Linked.{next, prev, Ring, Fits, Put, Kept, Pushed, Unlinked, Moved, Linked, linked}
@@ -29,6 +32,14 @@ put-out t e i v h = record { size = refl; link = ⊎-elim (λ l. absurd (omega a
 -- the length after a store and a `put`
 pub put-size : (t t' : List ℕ) (i v : ℕ) → length t' ≡ length (set t i v) → length t' ≡ length t
 put-size t t' i v l = l ∙ length-set t i v
+
+-- ---- the count
+
+-- one less than a number that is not 0
+one-less : (n m : ℕ) → n < 2 ^ 64 → (n + 1) % 2 ^ 64 ≡ m + 1 → n ≡ m
+one-less n m l e =
+    by-lt (n + 1) (2 ^ 64) (λ h. let q = sym (mod-eq-of-lt h) ∙ e in omega arith)
+    (λ h. let z : n + 1 ≡ 2 ^ 64 = omega arith in let q : 0 ≡ m + 1 = rw z at e in absurd (omega arith))
 
 -- ---- what a list's tables say
 
@@ -58,6 +69,9 @@ module _ (t : Linked) (room : length (t .prevs) ≤ NONE) where
 
     pub ring-distinct : Distinct xs
     ring-distinct = distinct (next t) (prev t) NONE xs NONE ring-clear (h .links)
+
+    pub ring-few : length xs ≤ length (t .prevs)
+    ring-few = distinct-few (length (t .prevs)) xs ring-distinct (h .slots)
 
     -- the head, and the tail
     pub ring-head : Inside (t .ends .head)
@@ -94,6 +108,7 @@ ring-frame t p' n' xs room e h a = record {
       links-same (next t) (prev t) (next t') (prev t') NONE xs NONE (look-end (cells n') hd ∙ sym (look-end (cells (t .nexts)) hd))
       (all-both (Kept t t') (λ x. x < length (t .prevs)) (λ k. (next t' k ≡ next t k) × (prev t' k ≡ prev t k)) same xs a (h .slots))
       (look-end (cells p') tl ∙ sym (look-end (cells (t .prevs)) tl)) (h .links);
+  many = h .many;
 }
   where
     t' : Linked
@@ -121,9 +136,10 @@ module _ (t : Linked) (s : ℕ) (pre : Fits (t .prevs) (t .nexts) s) where
   none-s : NONE ≢ s
   none-s q = s-none (sym q)
 
-  module _ (prevs' : List ℕ) (tail : ℕ) (p : Put (set (t .prevs) s NONE) (t .ends .tail) (t .ends .head) s prevs' tail) where
+  module _ (prevs' : List ℕ) (tail : ℕ) (p : Put (set (t .prevs) s NONE) (t .ends .tail) (t .ends .head) s prevs' tail)
+      (count : ℕ) (more : count ≡ (t .ends .count + 1) % 2 ^ 64) where
     abbrev pushed-to : Linked
-    pushed-to = linked prevs' (set (t .nexts) s (t .ends .head)) (record { head = s; tail = tail })
+    pushed-to = linked prevs' (set (t .nexts) s (t .ends .head)) (record { head = s; tail = tail; count = count })
 
     size : length prevs' ≡ length (t .prevs)
     size = put-size (t .prevs) prevs' s NONE (p .size)
@@ -143,6 +159,7 @@ module _ (t : Linked) (s : ℕ) (pre : Fits (t .prevs) (t .nexts) s) where
               look-upd (cells (t .prevs)) (t .ends .tail) s NONE s-none,
             )
             (rw (look-end (cells (t .nexts)) (t .ends .head)) at (push (next t) (prev t) s NONE none-s xs NONE none-s f (ring-clear t (pre .room) xs h) (h .links)));
+        many = let n = h .many in let l = ring-few t (pre .room) xs h in let r = pre .room in more ∙ mod-eq-of-lt (omega arith) ∙ omega arith;
       };
       rest = λ xs h k l w. (
         p .rest k (away t (pre .room) xs h k (t .ends .head) l (w .1) (ring-head t (pre .room) xs h)) ∙ getD-set-other (t .prevs) s k NONE 0 (λ q. w .0 (sym q)),
@@ -152,8 +169,9 @@ module _ (t : Linked) (s : ℕ) (pre : Fits (t .prevs) (t .nexts) s) where
 
   module _ (prevs' nexts' : List ℕ) (head tail : ℕ)
       (q : Put (t .nexts) (t .ends .head) (getD (t .prevs) s 0) (getD (t .nexts) s 0) nexts' head)
-      (p : Put (t .prevs) (t .ends .tail) (getD (t .nexts) s 0) (getD (t .prevs) s 0) prevs' tail) where
-    pub unlinked : Unlinked t s (linked prevs' nexts' (record { head = head; tail = tail }))
+      (p : Put (t .prevs) (t .ends .tail) (getD (t .nexts) s 0) (getD (t .prevs) s 0) prevs' tail)
+      (count : ℕ) (fewer : (count + 1) % 2 ^ 64 ≡ t .ends .count) (small : count < 2 ^ 64) where
+    pub unlinked : Unlinked t s (linked prevs' nexts' (record { head = head; tail = tail; count = count }))
     unlinked = record {
       sized = record { prevs-size = p .size; nexts-size = q .size };
       list = λ us vs h.
@@ -164,6 +182,9 @@ module _ (t : Linked) (s : ℕ) (pre : Fits (t .prevs) (t .nexts) s) where
             links =
                 rw (q .link (rw (pre .even) (m .0)), p .link (m .1))
                 (rw (look-at (cells (t .prevs)) (t .ends .tail) s s-none, look-at (cells (t .nexts)) (t .ends .head) s s-none) at d);
+            many =
+                let n = h .many in
+                one-less count (length (us ++ vs)) small (fewer ∙ omega (arith, length-append us vs, length-append us (s ∷ vs)));
           };
       rest = λ us vs h k l w.
           let zs : List ℕ = us ++ s ∷ vs in

@@ -1,4 +1,4 @@
--- What two lent tables and the two ends of a list hold, and what each call does to it.
+-- What two lent tables and the ends of a list hold, and what each call does to it.
 use mathlib.Core.Path.{_≡_}
 use mathlib.Core.Logic.{_≢_, _⊎_}
 use mathlib.Core.List.{List, _∷_, _++_}
@@ -27,10 +27,11 @@ next t = look (cells (t .nexts)) (t .ends .head)
 abbrev pub prev : Linked → ℕ → ℕ
 prev t = look (cells (t .prevs)) (t .ends .tail)
 
--- the tables hold the list xs: a ring of links from NONE through xs to NONE
+-- the tables hold the list xs: a ring of links from NONE through xs to NONE, and as many slots as the ends say
 pub record Ring (t : Linked) (xs : List ℕ) : Type 0 where
   pub slots : All (λ i. i < length (t .prevs)) xs
   pub links : Links (next t) (prev t) NONE xs NONE
+  pub many : t .ends .count ≡ length xs
 
 -- s is a slot of two tables of one size, in which NONE is no slot
 pub record Fits (p n : List ℕ) (s : ℕ) : Type 0 where

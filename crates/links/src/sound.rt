@@ -1,5 +1,5 @@
 // The calls ask that the two tables are of one size and that the slot is in them. What they do to a list, its `ensures` says of every
-// list that the tables hold.
+// list that the tables hold. Ends that are those of no list may have any count, and it may wrap.
 ghost use Prim.Native.Nat.{_≤_};
 ghost use lib.ListN.{length};
 ghost use Rattle.numbers.specs.Marks.{NONE};
@@ -35,9 +35,11 @@ pub fn push_front(
     nexts[s as usize] = head;
     prevs[s as usize] = numbers::NONE;
     let tail = put(prevs, ends.tail, head, s);
+    let count = std::num::wrapping_add_u64(ends.count, 1);
     crate::Ends {
         head: s,
         tail: tail,
+        count: count,
     }
 }
 
@@ -58,9 +60,11 @@ pub fn unlink(
     let n = nexts[s as usize];
     let head = put(nexts, ends.head, p, n);
     let tail = put(prevs, ends.tail, n, p);
+    let count = std::num::wrapping_sub_u64(ends.count, 1);
     crate::Ends {
         head: head,
         tail: tail,
+        count: count,
     }
 }
 

@@ -1,10 +1,11 @@
--- Laws of `map`: what holds of all images, how many they are, and what maps to a list in two parts. Each is a plain induction on the list.
+-- Laws of `map`: what holds of all images, how many they are, what they sum up to, and what maps to a list in two parts. Each is a plain
+-- induction on the list.
 use mathlib.Core.Path.{_≡_, refl, ap}
 use mathlib.Core.List.{List, [], _∷_, _++_, map}
 use Prim.Native.Nat.{ℕ, suc}
 use native.Mathlib.Omega.{arith}
 use lib.ListN.{length}
-use Rattle.lists.specs.Lists.{All}
+use Rattle.lists.specs.Lists.{All, sum}
 
 module _ {A B : Type 0} (f : A → B) where
   pub all-images : (P : B → Type 0) (xs : List A) → All (λ x. P (f x)) xs → All P (map f xs)
@@ -18,6 +19,10 @@ module _ {A B : Type 0} (f : A → B) where
   pub length-images : (xs : List A) → length (map f xs) ≡ length xs
   length-images [] = refl
   length-images (x ∷ xs) = ap suc (length-images xs)
+
+  pub sum-images : (g : B → ℕ) (xs : List A) → sum g (map f xs) ≡ sum (λ x. g (f x)) xs
+  sum-images g [] = refl
+  sum-images g (x ∷ xs) = let ih = sum-images g xs in omega arith
 
   -- a list that maps to a first element and others
   pub map-cons : (xs : List A) (v : B) (vs : List B) → map f xs ≡ v ∷ vs → (a : A) × (ps : List A) × (xs ≡ a ∷ ps) × (f a ≡ v) × (map f ps ≡ vs)

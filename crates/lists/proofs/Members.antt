@@ -107,6 +107,14 @@ module _ {A : Type 0} where
   sum-append g [] vs = omega arith
   sum-append g (x ∷ us) vs = let ih = sum-append g us vs in omega arith
 
+  pub sum-same : (g h : A → ℕ) (xs : List A) → All (λ x. g x ≡ h x) xs → sum g xs ≡ sum h xs
+  sum-same g h [] e = refl
+  sum-same g h (x ∷ xs) e = let p = e .0 in let ih = sum-same g h xs (e .1) in omega arith
+
+  pub sum-none : (g : A → ℕ) (xs : List A) → All (λ x. g x ≡ 0) xs → sum g xs ≡ 0
+  sum-none g [] e = refl
+  sum-none g (x ∷ xs) e = let p = e .0 in let ih = sum-none g xs (e .1) in omega arith
+
   pub in-sum : (g : A → ℕ) (xs : List A) (x : A) → In x xs → g x ≤ sum g xs
   in-sum g (y ∷ ys) x (inl e) = let p = ap g e in omega arith
   in-sum g (y ∷ ys) x (inr i) = let p = in-sum g ys x i in omega arith

@@ -10,7 +10,7 @@ use lib.ListN.{length}
 use Rattle.lists.specs.Lists.{All, In, Without, Distinct, times}
 use Rattle.lists.specs.Marks.{mark, count}
 use Rattle.lists.proofs.Tests.{if-eq, by-eq, neither}
-use Rattle.lists.proofs.Members.{all-map, without-times, in-times, times-in, times-without, in-without}
+use Rattle.lists.proofs.Members.{all-any, all-map, without-times, in-times, times-in, times-without, in-without}
 use Rattle.lists.proofs.Totals.{total-le, total-same, total-tight, total-add, total-ones, length-total}
 
 pub distinct-times : (k : ℕ) (fs : List ℕ) → Distinct fs → times k fs ≤ 1
@@ -99,3 +99,7 @@ module _ (p : ℕ → Bool) (n : ℕ) (fs : List ℕ) (distinct : Distinct fs) (
           off : (b : Bool) → not b ≡ true → b ≡ false
           off true e = sym e
           off false e = refl
+
+-- distinct numbers below n are n at most
+pub distinct-few : (n : ℕ) (fs : List ℕ) → Distinct fs → All (λ x. x < n) fs → length fs ≤ n
+distinct-few n fs d b = omega (arith, pigeon (λ k. false) n fs d b (all-any (λ x. false ≡ false) (λ x. refl) fs))

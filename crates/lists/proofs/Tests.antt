@@ -5,8 +5,8 @@ use mathlib.Core.Bool.{Bool, true, false, cond}
 use Prim.Native.Nat.{ℕ, _≤_, _<_}
 use native.Mathlib.Decide.{ℕ-discrete}
 use native.Mathlib.Omega.{arith}
-use lib.Dec.{eqb, ltb}
-use borrow.Author.Tests.{ltb-true, ltb-false, eqb-true, eqb-false}
+use lib.Dec.{eqb, ltb, leb}
+use borrow.Author.Tests.{ltb-true, ltb-false, leb-true, leb-false, eqb-true, eqb-false}
 use Rattle.lists.specs.Lists.{one}
 
 pub if-eq : {A : Type 0} (P : A → Type 0) (a b : ℕ) {x y : A} → (a ≡ b → P x) → (a ≢ b → P y) → P (cond (eqb a b) x y)
@@ -22,6 +22,13 @@ if-lt P a b {x} {y} p q = go (ltb a b) refl
     go : (t : Bool) → ltb a b ≡ t → P (cond t x y)
     go true e = p (ltb-true a b e)
     go false e = q (ltb-false a b e)
+
+pub if-le : {A : Type 0} (P : A → Type 0) (a b : ℕ) {x y : A} → (a ≤ b → P x) → (b < a → P y) → P (cond (leb a b) x y)
+if-le P a b {x} {y} p q = go (leb a b) refl
+  where
+    go : (t : Bool) → leb a b ≡ t → P (cond t x y)
+    go true e = p (leb-true a b e)
+    go false e = q (leb-false a b e)
 
 -- two numbers are equal or not, in order or not
 pub by-eq : {P : Type 0} (a b : ℕ) → (a ≡ b → P) → (a ≢ b → P) → P
@@ -60,6 +67,12 @@ if-less a b x y e = if-lt (λ z. z ≡ x) a b (λ s. refl) (λ d. absurd (omega 
 
 pub if-not-less : {A : Type 0} (a b : ℕ) (x y : A) → b ≤ a → cond (ltb a b) x y ≡ y
 if-not-less a b x y e = if-lt (λ z. z ≡ y) a b (λ s. absurd (omega arith)) (λ d. refl)
+
+pub if-at-most : {A : Type 0} (a b : ℕ) (x y : A) → a ≤ b → cond (leb a b) x y ≡ x
+if-at-most a b x y e = if-le (λ z. z ≡ x) a b (λ s. refl) (λ d. absurd (omega arith))
+
+pub if-above : {A : Type 0} (a b : ℕ) (x y : A) → b < a → cond (leb a b) x y ≡ y
+if-above a b x y e = if-le (λ z. z ≡ y) a b (λ s. absurd (omega arith)) (λ d. refl)
 
 pub one-same : (a b : ℕ) → a ≡ b → one a b ≡ 1
 one-same a b e = if-same a b 1 0 e

@@ -132,7 +132,7 @@ pub fn start(from: i32, capacity: usize)
     let mut nexts = [0u64; 256];
     let mut arena = [0u64; 256];
     let mut index = [0u64; 512];
-    let mut buckets = [0u64; 1536];
+    let mut buckets = [0u64; 1792];
     let mut spares = [0u64; 256];
     let mut values = [0u64; 256];
     let mut input = io::large_buffer();

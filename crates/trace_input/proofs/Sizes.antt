@@ -26,7 +26,7 @@ zeros-size m c h = sym (length-take-le c (replicate m 0) (rw length-replicate h)
 
 -- the tables that are lent of the program's arrays
 pub start-sizes : (c : ℕ) → c ≤ SLOTS →
-    Sizes (withValues (tables (zeros 256 c) (zeros 256 c) (zeros 256 c) (zeros 256 c) (zeros 256 c) (zeros 256 c) (zeros 512 (c + c)) (zeros 1536 (c * 6)) (zeros 256 c)) (zeros 256 c)) c
+    Sizes (withValues (tables (zeros 256 c) (zeros 256 c) (zeros 256 c) (zeros 256 c) (zeros 256 c) (zeros 256 c) (zeros 512 (c + c)) (zeros 1792 (c * 7)) (zeros 256 c)) (zeros 256 c)) c
 start-sizes c h =
     let same = sym (zeros-size 256 c h) in
     record {
@@ -39,7 +39,7 @@ start-sizes c h =
         nexts-size = same;
         arena-size = same;
         index-size = sym (zeros-size 512 (c + c) (omega arith));
-        buckets-size = sym (zeros-size 1536 (c * 6) (omega arith));
+        buckets-size = sym (zeros-size 1792 (c * 7) (omega arith));
         spares-size = same;
       };
       values = same;

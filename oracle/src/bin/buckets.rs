@@ -45,5 +45,5 @@ fn is_cache_call(operation: u8) -> bool {
 
 /// Whether only buckets that are no part of a cache can answer.
 fn is_bucket_call(operation: u8) -> bool {
-    matches!(operation, 1 | 3..=7 | 9..=13 | 17..=19 | 21 | 22 | 60..=62)
+    matches!(operation, 1 | 3..=7 | 9..=13 | 17..=19 | 21 | 22 | 24 | 25 | 60..=62)
 }

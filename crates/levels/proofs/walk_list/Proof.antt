@@ -1,4 +1,4 @@
--- The slots passed are the beginning of the list, and each was tested; `n` counts down.
+-- The slots passed are the beginning of the list, and each was tested; `n` counts down, and what it has lost at the end is the record's count.
 use native.Mathlib.Omega.{arith}
 use borrow.Author.Needs.{needs}
 use borrow.Author.Tests.{not-true, not-false}
@@ -49,8 +49,14 @@ loop-again c = laws.along-on _ _ _ _ _ (c .before .before .before .before .befor
 returns-3 : tie.Need-returns-3 Inv-loop μ-loop
 returns-3 c = laws.list-none _ _ _ _ _ (c .before .before .before .before .before .before .before .before .before .pre .0) _ _ _ _ (c .before .before .loop .inv) (c .before .loop-test .left) (c .if3 .taken)
 
+sub-found : tie.Need-sub-found Inv-loop μ-loop
+sub-found c = let w = c .before .before .loop .inv .spent in omega arith
+
 returns-4 : tie.Need-returns-4 Inv-loop μ-loop
-returns-4 c = laws.list-done _ _ _ _ _ (c .before .before .before .before .before .before .before .before .before .before .pre .0) _ _ _ _ (c .before .before .before .loop .inv) (c .before .before .loop-test .left) (c .before .if3 .left) _ (c .before .before .before .before .ends .ensures .1)
+returns-4 c = laws.list-miscounted _ _ _ _ _ (c .before .before .before .before .before .before .before .before .before .before .before .pre .0) _ _ _ _ (c .before .before .before .before .loop .inv) (c .before .before .before .loop-test .left) _ (c .before .before .before .before .before .ends .ensures .2) (c .if4 .taken)
+
+returns-5 : tie.Need-returns-5 Inv-loop μ-loop
+returns-5 c = laws.list-done _ _ _ _ _ (c .before .before .before .before .before .before .before .before .before .before .before .before .pre .0) _ _ _ _ (c .before .before .before .before .before .loop .inv) (c .before .before .before .before .loop-test .left) (c .before .before .before .if3 .left) _ (c .before .before .before .before .before .before .ends .ensures .2) (c .before .if4 .left) _ (c .before .before .before .before .before .before .ends .ensures .1)
 
 pub walk-list-spec : {M : Type 1} → statement M
 walk-list-spec =
@@ -70,4 +76,6 @@ walk-list-spec =
     loop-less
     loop-again
     returns-3
-    returns-4)
+    sub-found
+    returns-4
+    returns-5)

@@ -78,7 +78,7 @@ fn start(capacity: usize, records: &[u8], out: &mut [u8]) -> usize
     let mut nexts = [0u64; 256];
     let mut arena = [0u64; 256];
     let mut index = [0u64; 512];
-    let mut buckets = [0u64; 1536];
+    let mut buckets = [0u64; 1792];
     let mut spares = [0u64; 256];
     let mut values = [0u64; 256];
     let twice = capacity + capacity;

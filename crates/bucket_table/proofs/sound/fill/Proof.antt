@@ -1,4 +1,4 @@
--- The five stores, one word each.
+-- Three stores, one word each, and the ends of an empty list.
 use borrow.Author.Needs.{needs}
 use Rattle.bucket_table.proofs.Words.{filled}
 use Rattle.bucket_table.proofs.sound.fill.Statement.{statement}
@@ -13,11 +13,8 @@ store-requires-2 c κs = search needs
 store-requires-3 : tie.Need-store-requires-3
 store-requires-3 c κs = search needs
 
-store-requires-4 : tie.Need-store-requires-4
-store-requires-4 c κs = search needs
-
-store-requires-5 : tie.Need-store-requires-5
-store-requires-5 c κs = search needs
+set-ends-requires : tie.Need-set-ends-requires
+set-ends-requires c κs = search needs
 
 same-length : tie.Need-same-length
 same-length c = search needs
@@ -32,7 +29,6 @@ fill-spec =
     store-requires
     store-requires-2
     store-requires-3
-    store-requires-4
-    store-requires-5
+    set-ends-requires
     same-length
     returns)

@@ -10,6 +10,9 @@ store-requires c κs = search needs
 store-requires-2 : tie.Need-store-requires-2
 store-requires-2 c κs = search needs
 
+store-requires-3 : tie.Need-store-requires-3
+store-requires-3 c κs = search needs
+
 same-length : tie.Need-same-length
 same-length c = search needs
 
@@ -17,4 +20,5 @@ returns : tie.Need-returns
 returns c = search (needs, ends-set)
 
 pub set-ends-spec : {M : Type 1} → statement M
-set-ends-spec = tie.close (tie.spec store-requires store-requires-2 same-length returns)
+set-ends-spec =
+    tie.close (tie.spec store-requires store-requires-2 store-requires-3 same-length returns)

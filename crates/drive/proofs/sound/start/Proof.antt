@@ -59,7 +59,7 @@ array-borrow-prefix-buckets : tie.Need-array-borrow-prefix-buckets
 array-borrow-prefix-buckets c = let few = c .before .before .before .before .before .before .before .places .ensures in omega arith
 
 slice-aggregate-begin-8 : tie.Need-slice-aggregate-begin-8
-slice-aggregate-begin-8 c = zeros-size 24576 _ (let few = c .before .before .before .before .before .before .before .before .places .ensures in omega arith)
+slice-aggregate-begin-8 c = zeros-size 28672 _ (let few = c .before .before .before .before .before .before .before .before .places .ensures in omega arith)
 
 array-borrow-prefix-spares : tie.Need-array-borrow-prefix-spares
 array-borrow-prefix-spares c = let few = c .before .before .before .before .before .before .before .before .places .ensures in omega arith

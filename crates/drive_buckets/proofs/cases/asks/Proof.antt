@@ -56,6 +56,18 @@ contains-requires c κs = search needs
 asked-requires-2 : tie.Need-asked-requires-2
 asked-requires-2 c κs = search needs
 
+bucket-len-requires : tie.Need-bucket-len-requires
+bucket-len-requires c κs = search needs
+
+count-requires-2 : tie.Need-count-requires-2
+count-requires-2 c κs = search needs
+
+len-up-to-requires : tie.Need-len-up-to-requires
+len-up-to-requires c κs = search needs
+
+count-requires-3 : tie.Need-count-requires-3
+count-requires-3 c κs = search needs
+
 returns : tie.Need-returns
 returns c = made _ _ _ _ _ (λ (m : ℕ). queryCall m (c .before .before .before .before .before .before .before .before .before .before .before .before .args .a)) _ 6 _ refl (c .before .before .match .keys1) (leastReply (c .before .peek-min .result)) _ (c .least .ensures) refl (c .before .peek-min .ensures)
 
@@ -81,7 +93,13 @@ returns-8 : tie.Need-returns-8
 returns-8 c = made _ _ _ _ _ (λ (m : ℕ). queryCall m (c .before .before .before .before .before .before .before .before .before .before .before .before .args .a)) _ 16 _ refl (c .before .before .match .keys8) (askedReply (c .before .contains .result)) _ (c .asked2 .ensures) refl (c .before .contains .ensures)
 
 returns-9 : tie.Need-returns-9
-returns-9 c = sent _ _ _ _ _ _ _ (no-query _ _ (c .match .rest .0 .0 .0 .0 .0 .0 .0 .1) (c .match .rest .0 .0 .0 .0 .0 .0 .1) (c .match .rest .0 .0 .0 .0 .0 .1) (c .match .rest .0 .0 .0 .0 .1) (c .match .rest .0 .0 .0 .1) (c .match .rest .0 .0 .1) (c .match .rest .0 .1) (c .match .rest .1)) _ _ refl refl (refl, refl, refl)
+returns-9 c = made _ _ _ _ _ (λ (m : ℕ). queryCall m (c .before .before .before .before .before .before .before .before .before .before .before .before .args .a)) _ 24 _ refl (c .before .before .match .keys9) (countReply (c .before .bucket-len .result)) _ (c .count2 .ensures) refl (c .before .bucket-len .ensures)
+
+returns-10 : tie.Need-returns-10
+returns-10 c = made _ _ _ _ _ (λ (m : ℕ). queryCall m (c .before .before .before .before .before .before .before .before .before .before .before .before .args .a)) _ 25 _ refl (c .before .before .match .keys10) (countReply (c .before .len-up-to .result)) _ (c .count3 .ensures) refl (c .before .len-up-to .ensures)
+
+returns-11 : tie.Need-returns-11
+returns-11 c = sent _ _ _ _ _ _ _ (no-query _ _ (c .match .rest .0 .0 .0 .0 .0 .0 .0 .0 .0 .1) (c .match .rest .0 .0 .0 .0 .0 .0 .0 .0 .1) (c .match .rest .0 .0 .0 .0 .0 .0 .0 .1) (c .match .rest .0 .0 .0 .0 .0 .0 .1) (c .match .rest .0 .0 .0 .0 .0 .1) (c .match .rest .0 .0 .0 .0 .1) (c .match .rest .0 .0 .0 .1) (c .match .rest .0 .0 .1) (c .match .rest .0 .1) (c .match .rest .1)) _ _ refl refl (refl, refl, refl)
 
 pub asks-spec : {M : Type 1} → statement M
 asks-spec =
@@ -103,6 +121,10 @@ asks-spec =
     asked-requires
     contains-requires
     asked-requires-2
+    bucket-len-requires
+    count-requires-2
+    len-up-to-requires
+    count-requires-3
     returns
     returns-2
     returns-3
@@ -111,4 +133,6 @@ asks-spec =
     returns-6
     returns-7
     returns-8
-    returns-9)
+    returns-9
+    returns-10
+    returns-11)

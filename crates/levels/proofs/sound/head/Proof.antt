@@ -1,31 +1,14 @@
--- The first record from the frequency on has it, or no record has.
-use denote.Ref.{now}
-use mathlib.Core.Path.{refl}
-use Rattle.lists.proofs.Tests.{said-no}
-use Rattle.bucket_table.proofs.Places.{spot-in}
-use Rattle.levels.proofs.Answers as laws
+-- The head of the list that `level_ends` finds.
+use borrow.Author.Needs.{needs}
+use Rattle.levels.proofs.Answers.{heads}
 use Rattle.levels.proofs.sound.head.Statement.{statement}
 use Rattle.levels.proofs.sound.head.Tie as tie
 
-place-requires : tie.Need-place-requires
-place-requires c κs = (c .before .pre .3, (_, c .before .pre .4 .1 .rep .records))
-
-above-requires : tie.Need-above-requires
-above-requires c κs = laws.head-spots (now (c .before .before .args .buckets)) (c .before .before .args .state) _ _ _ (c .place .ensures) refl (c .before .before .pre) .0
-
-is-level-requires : tie.Need-is-level-requires
-is-level-requires c κs = laws.head-spots (now (c .before .before .before .args .buckets)) (c .before .before .before .args .state) _ _ _ (c .before .place .ensures) (c .above .ensures) (c .before .before .before .pre) .1
-
-ends-requires : tie.Need-ends-requires
-ends-requires c κs = spot-in (now (c .before .before .before .before .before .args .buckets)) _ (laws.head-spots (now (c .before .before .before .before .before .args .buckets)) (c .before .before .before .before .before .args .state) _ _ _ (c .before .before .before .place .ensures) (c .before .before .above .ensures) (c .before .before .before .before .before .pre) .1) (c .before .is-level .ensures .0 (c .if1 .taken) .0)
+level-ends-requires : tie.Need-level-ends-requires
+level-ends-requires c κs = search needs
 
 returns : tie.Need-returns
-returns c = laws.heads-there _ _ _ _ _ (c .before .before .before .before .place .ensures) (c .before .before .before .above .ensures) (c .before .before .is-level .ensures .0 (c .before .if1 .taken)) _ (c .ends .ensures .0)
-
-returns-2 : tie.Need-returns-2
-returns-2 c = laws.heads-none _ _ _ _ _ (c .before .before .before .place .ensures) (c .before .before .above .ensures) (said-no _ (c .before .is-level .ensures) (c .if1 .left))
+returns c = heads _ _ _ _ (c .level-ends .ensures)
 
 pub head-spec : {M : Type 1} → statement M
-head-spec =
-    tie.close
-    (tie.spec place-requires above-requires is-level-requires ends-requires returns returns-2)
+head-spec = tie.close (tie.spec level-ends-requires returns)

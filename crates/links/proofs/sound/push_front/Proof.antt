@@ -19,6 +19,9 @@ slice-write-prevs c = search needs
 put-requires : tie.Need-put-requires
 put-requires c κs = search needs
 
+wrapping-add-u64-requires : tie.Need-wrapping-add-u64-requires
+wrapping-add-u64-requires c κs = search needs
+
 same-length : tie.Need-same-length
 same-length c = search (needs, put-size)
 
@@ -37,6 +40,7 @@ push-front-spec =
     mul-prevs
     slice-write-prevs
     put-requires
+    wrapping-add-u64-requires
     same-length
     same-length-2
     returns)

@@ -22,6 +22,9 @@ put-requires c κs = search needs
 put-requires-2 : tie.Need-put-requires-2
 put-requires-2 c κs = search needs
 
+wrapping-sub-u64-requires : tie.Need-wrapping-sub-u64-requires
+wrapping-sub-u64-requires c κs = search needs
+
 same-length : tie.Need-same-length
 same-length c = search needs
 
@@ -41,6 +44,7 @@ unlink-spec =
     slice-read-n
     put-requires
     put-requires-2
+    wrapping-sub-u64-requires
     same-length
     same-length-2
     returns)

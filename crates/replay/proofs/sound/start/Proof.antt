@@ -63,7 +63,7 @@ array-borrow-prefix-buckets : tie.Need-array-borrow-prefix-buckets
 array-borrow-prefix-buckets c = search needs
 
 slice-aggregate-run-8 : tie.Need-slice-aggregate-run-8
-slice-aggregate-run-8 c = zeros-size 1536 _ (let few = c .before .before .before .before .before .before .before .before .before .before .pre in omega arith)
+slice-aggregate-run-8 c = zeros-size 1792 _ (let few = c .before .before .before .before .before .before .before .before .before .before .pre in omega arith)
 
 array-borrow-prefix-spares : tie.Need-array-borrow-prefix-spares
 array-borrow-prefix-spares c = search needs

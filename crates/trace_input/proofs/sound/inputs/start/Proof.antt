@@ -57,7 +57,7 @@ array-borrow-prefix-buckets : tie.Need-array-borrow-prefix-buckets
 array-borrow-prefix-buckets c = search needs
 
 slice-aggregate-afresh-8 : tie.Need-slice-aggregate-afresh-8
-slice-aggregate-afresh-8 c = zeros-size 1536 _ (let few = c .before .before .before .before .before .before .before .before .before .before .pre .0 in omega arith)
+slice-aggregate-afresh-8 c = zeros-size 1792 _ (let few = c .before .before .before .before .before .before .before .before .before .before .pre .0 in omega arith)
 
 array-borrow-prefix-spares : tie.Need-array-borrow-prefix-spares
 array-borrow-prefix-spares c = search needs
