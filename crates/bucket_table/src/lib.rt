@@ -1,6 +1,8 @@
 // The bucket table: one record for each frequency in use, linked to the next lower and the next higher one, with the ends of its list of
 // slots and how many they are; and for each slot the record that it is in. All of it lies in one lent table, WORDS words for each record.
 // Records that are not in use are kept by a slot arena over a second table.
+#![tactic(auto)]
+
 ghost use Rattle.std.specs.Prelude.{◌≡◌, true, ◌↔◌};
 ghost use Rattle.bucket_table.specs.Check.{RecordOk, RecordsWalk, RecordsSized};
 ghost use Rattle.bucket_table.specs.Records.{RecordsSound};
@@ -14,7 +16,7 @@ pub mod sound;
 pub const WORDS: u64 = 7;
 
 // The lowest and the highest record, NONE where there is none, and the order of the spare ones.
-#[derive(Drop)]
+#[derive(Clone, Copy)]
 pub struct Buckets {
     pub bottom: u64,
     pub top: u64,
@@ -22,7 +24,7 @@ pub struct Buckets {
 }
 
 // A new record, and the state with it.
-#[derive(Drop)]
+#[derive(Clone, Copy)]
 pub struct Made {
     pub number: u64,
     pub state: Buckets,

@@ -1,4 +1,6 @@
 // The batches on the frequency buckets, on sound tables: they stand in `sound`. Here is what a batch counts.
+#![tactic(auto)]
+
 ghost use Rattle.std.specs.Prelude.{◌≡◌};
 ghost use Rattle.ledger.specs.Buckets.{was_done};
 ghost use Rattle.answers.specs.Replies.{level_reply, plain_reply};
@@ -10,7 +12,7 @@ use numbers::Answer;
 pub mod sound;
 
 // How many items were done, and the state after the batch.
-#[derive(Drop)]
+#[derive(Clone, Copy)]
 pub struct Batched {
     pub done: u64,
     pub state: State,

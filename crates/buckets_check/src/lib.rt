@@ -1,5 +1,7 @@
 // Whether lent tables, with whatever numbers they have, hold a ledger. Each part has its own check; what is left is that the parts agree on
 // every slot, and that the state's count and lowest frequency are theirs. Linear in the capacity, with no memory of its own.
+#![tactic(auto)]
+
 ghost use Rattle.std.specs.Prelude.{◌≡◌, true, ◌↔◌, ◌+◌, ◌<◌, ◌≤◌, length};
 ghost use Rattle.numbers.specs.Marks.{LIMIT};
 ghost use Rattle.promise.specs.Promise.{Checks, Sound};

@@ -1,5 +1,7 @@
 // Other frequencies for all keys, in place: halving, and lowering to 1. Levels that come together are joined; slots, keys, epochs and the free
 // order stay, for their tables are not lent. The calls stand in `sound`.
+#![tactic(auto)]
+
 ghost use Rattle.std.specs.Prelude.{◌≡◌};
 ghost use Rattle.buckets_regroup.specs.Change.{changed};
 
@@ -8,7 +10,7 @@ use numbers::Frequency;
 pub mod sound;
 
 // What becomes of a frequency: it is halved some times over, or lowered by a number, but never below the first level.
-#[derive(Drop)]
+#[derive(Clone, Copy)]
 enum Change {
     Halved(u64),
     Lowered(u64),

@@ -1,4 +1,6 @@
 // What a caller lends for the frequency buckets: nine tables, and a small state that is handed in and handed back.
+#![tactic(auto)]
+
 ghost use Rattle.std.specs.Prelude.{◌≡◌};
 ghost use Rattle.buckets_tables.specs.Calls.{recounted, dated, next_epoch};
 ghost use Rattle.buckets_tables.specs.Lent.{nothing};
@@ -11,7 +13,7 @@ pub mod sound;
 
 // The capacity, how many keys are bound, the lowest frequency in use (0 where no key is bound), the epoch, where the free order
 // begins and ends, and where the bucket records do.
-#[derive(Drop)]
+#[derive(Clone, Copy)]
 pub struct State {
     pub capacity: u64,
     pub count: u64,
@@ -22,14 +24,14 @@ pub struct State {
 }
 
 // The slot that a key was bound in, and the state after it.
-#[derive(Drop)]
+#[derive(Clone, Copy)]
 pub struct Placed {
     pub slot: Slot,
     pub state: State,
 }
 
 // The frequency of a key that was hit, and the state after it.
-#[derive(Drop)]
+#[derive(Clone, Copy)]
 pub struct Hit {
     pub frequency: Frequency,
     pub state: State,

@@ -1,5 +1,7 @@
 // Whether lent tables and values, with whatever numbers they have, hold a cache: the tables hold a ledger, there is a value for each
 // slot, and a free slot's value is 0. Linear in the capacity, with no memory of its own.
+#![tactic(auto)]
+
 ghost use Rattle.std.specs.Prelude.{◌≡◌, true, ◌↔◌, length};
 ghost use Rattle.promise.specs.Promise.{Checks};
 ghost use Rattle.promise.specs.Making.{Measures};

@@ -1,4 +1,6 @@
 // The lent tables of the cache: what they hold, what is promised of them, and the steps that calls have in common.
+#![tactic(auto)]
+
 ghost use Rattle.std.specs.Prelude.{◌≡◌, set};
 
 use numbers::Slot;

@@ -1,6 +1,8 @@
 // Makes one public call for each record of standard input, and prints its answer. With arguments it does so for the files that they name, one
 // after another, with a line `--` behind each; `-` is standard input. What it is held to, args, data, stdin and stdout beside src, is put
 // together by examples/pack: document 01's cases, calls that are refused, odd inputs, and runs that the original answered.
+#![tactic(auto)]
+
 ghost use Rattle.std.specs.Prelude.{◌≡◌};
 ghost use Rattle.drive.specs.Ends.{header_of, last_told};
 
@@ -18,7 +20,7 @@ pub const PART: usize = 65518;
 pub const LAST: usize = 262144;
 
 // Where the printed bytes end, where the next record begins, and the state after the records so far.
-#[derive(Drop)]
+#[derive(Clone, Copy)]
 pub struct Fed {
     pub at: usize,
     pub next: usize,
@@ -27,7 +29,7 @@ pub struct Fed {
 
 // Whether there is more to do, how many bytes were printed and how many have been read, where the next record begins, and the state after
 // the records so far.
-#[derive(Drop)]
+#[derive(Clone, Copy)]
 pub struct Turned {
     pub more: bool,
     pub at: usize,
@@ -37,7 +39,7 @@ pub struct Turned {
 }
 
 // What an input begins with: the capacity of its tables, or fewer bytes than that takes.
-#[derive(Drop)]
+#[derive(Clone, Copy)]
 pub enum Header {
     Capacity(usize),
     Cut,

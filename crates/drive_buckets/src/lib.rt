@@ -1,5 +1,7 @@
 // The operations of `drive` on the frequency buckets, each a public call and the line of its answer. Every wide function lends the tables
 // in one order and by short names: k f e p n ar ix bk sp are keys, freqs, epochs, prevs, nexts, arena, index, buckets and spares.
+#![tactic(auto)]
+
 ghost use Rattle.buckets_tables.specs.Slices.{before, after};
 ghost use Rattle.buckets_tables.specs.Lent.{buckets};
 ghost use Rattle.drive_lines.specs.Driving.{Reports};

@@ -1,5 +1,7 @@
 // The cache's operations of `drive`: each is one public call, or the check that they all make, and what is told of its answer. The tables are named k f e p n ar ix bk sp vs:
 // keys, freqs, epochs, prevs, nexts, arena, index, buckets, spares and values.
+#![tactic(auto)]
+
 ghost use Rattle.cache_tables.specs.Slices.{before, after};
 ghost use Rattle.drive_cache.specs.Operations.{question, cache_call, batch_call, DrivesCache};
 

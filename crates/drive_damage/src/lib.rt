@@ -1,5 +1,7 @@
 // The damage that `drive` does on demand: one number put into a table or into the state, whatever it breaks there. The tables are named k f
 // e p n ar ix bk sp vs: keys, freqs, epochs, prevs, nexts, arena, index, buckets, spares and values.
+#![tactic(auto)]
+
 ghost use Rattle.cache_tables.specs.Slices.{before, after};
 ghost use Rattle.drive_damage.specs.Damage.{Puts, Damages, Alters};
 
@@ -10,7 +12,7 @@ use trace::Word;
 const PLACES: u64 = 65536;
 
 // Whether there is such a field, and the state after it.
-#[derive(Drop)]
+#[derive(Clone, Copy)]
 pub struct Altered {
     pub word: Word,
     pub state: State,

@@ -1,5 +1,7 @@
 // The lines of `drive`: document 01's number and the values of an answer, or a word; and the line of each answer of a public call. Writing
 // one into a buffer stands in `sound`.
+#![tactic(auto)]
+
 ghost use Rattle.std.specs.Prelude.{◌≡◌};
 ghost use Rattle.answers.specs.Replies.{level_reply, least_reply, epoch_reply, count_reply, asked_reply, plain_reply};
 ghost use Rattle.drive_lines.specs.Lines.{text, reply_text};
@@ -14,7 +16,7 @@ pub mod cached;
 pub mod sound;
 
 // What is told of a call: a number alone, DONE with values, DONE and how an insert into the cache went; or a word of `drive` itself.
-#[derive(Drop)]
+#[derive(Clone, Copy)]
 pub enum Told {
     Alone(Answer),
     One(u64),
@@ -24,7 +26,7 @@ pub enum Told {
 }
 
 // What is told of a call on lent tables, and the state after it.
-#[derive(Drop)]
+#[derive(Clone, Copy)]
 pub struct Driven {
     pub told: Told,
     pub state: State,

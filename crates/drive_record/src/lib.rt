@@ -1,5 +1,7 @@
 // One record of `drive`: a public call, by its operation, and its line in a lent buffer. It stands in `sound`, which is lent a table for the
 // keys and values of a batch and a buffer with room for the longest line.
+#![tactic(auto)]
+
 ghost use Rattle.std.specs.Prelude.{◌≡◌, ◌≤◌};
 ghost use Rattle.drive_record.specs.Operations.{surplus_of};
 
@@ -10,7 +12,7 @@ use drive_lines::{Driven, Told};
 pub mod sound;
 
 // Where the next line goes, and the state after the lines so far.
-#[derive(Drop)]
+#[derive(Clone, Copy)]
 pub struct Stepped {
     pub at: usize,
     pub state: State,

@@ -1,5 +1,7 @@
 // First steps with the frequency buckets: tables for four guests are made, two guests are bound, one is hit, and the one that gives up its
 // slot is told. docs/DEVICE.md walks through it.
+#![tactic(auto)]
+
 use answers::Least;
 use drive_lines::least;
 use drive_lines::sound::write;

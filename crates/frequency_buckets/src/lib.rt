@@ -1,5 +1,7 @@
 // The calls of `FrequencyBuckets` that change one key, on any lent tables. Each checks first; where the tables hold a ledger it does what
 // the ledger's call does, else it says why not and leaves everything.
+#![tactic(auto)]
+
 ghost use Rattle.ledger.specs.BucketCalls as ledger;
 ghost use Rattle.promise.specs.Promise.{Makes};
 ghost use Rattle.buckets_tables.specs.Slices.{before, after};

@@ -1,4 +1,6 @@
 // The batches of `FrequencyBuckets`, on any lent tables: one check, then the single call for each item in order, past refusals.
+#![tactic(auto)]
+
 ghost use Rattle.ledger.specs.BucketCalls as ledger;
 ghost use Rattle.promise.specs.Promise.{Makes};
 ghost use Rattle.buckets_tables.specs.Slices.{before, after};

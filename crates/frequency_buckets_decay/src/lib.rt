@@ -1,5 +1,7 @@
 // The calls of `FrequencyBuckets` that give every key another frequency. Keys, slots, last epochs and free order stay, so the tables that hold
 // them are lent for reading only.
+#![tactic(auto)]
+
 ghost use Rattle.ledger.specs.BucketCalls as calls;
 ghost use Rattle.promise.specs.Promise.{Makes};
 ghost use Rattle.buckets_tables.specs.Slices.{before, after};

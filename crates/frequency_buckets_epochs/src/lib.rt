@@ -1,4 +1,6 @@
 // The calls of `FrequencyBuckets` on epochs, on any lent tables: each checks first.
+#![tactic(auto)]
+
 ghost use Rattle.ledger.specs.BucketCalls as ledger;
 ghost use Rattle.promise.specs.Promise.{Makes};
 ghost use Rattle.buckets_tables.specs.Slices.{before, after};

@@ -1,4 +1,6 @@
 // The calls of `FrequencyBuckets` on whole tables: making them, which takes any contents, and clearing them.
+#![tactic(auto)]
+
 ghost use Rattle.ledger.specs.Ledger as ledger;
 ghost use Rattle.ledger.specs.BucketCalls as calls;
 ghost use Rattle.promise.specs.Promise.{Makes};

@@ -1,5 +1,7 @@
 // The calls of `FrequencyBuckets` that only answer, on any lent tables: each checks first, and says why not where the tables hold no
 // ledger.
+#![tactic(auto)]
+
 ghost use Rattle.ledger.specs.BucketCalls as ledger;
 ghost use Rattle.promise.specs.Promise.{Answers};
 ghost use Rattle.buckets_tables.specs.Slices.{before};

@@ -2,6 +2,8 @@
 // the slot. The fields of a walker and of a stand are this crate's own: whoever holds one got it from a start, which checked the tables that
 // the walker holds. The borrow checker covers no function over a struct that holds a slice, so these are thin and proved by hand; the work
 // is done in `plain`, on plain tables. Other callers take `first`, `nth` and `sound::onward`, whose parameters are plain too.
+#![tactic(auto)]
+
 ghost use Rattle.std.specs.Prelude.{◌≡◌};
 ghost use Rattle.buckets_tables.specs.Slices.{before};
 ghost use Rattle.frequency_buckets_walker.specs.Stands.{is_refused};
@@ -18,7 +20,7 @@ pub mod sound;
 const NOWHERE: u64 = 0xffff_ffff_ffff_ffff;
 
 // What a walker has answered last, and the slot it stands at. It stands out of range where it has answered no slot.
-#[derive(Drop)]
+#[derive(Clone, Copy)]
 pub struct Stand {
     slot: Slot,
     answer: Reached,

@@ -1,5 +1,7 @@
 // From a key to its slot, over one lent table of 2 C words beside the C keys: `index[c]` is the first slot of class c, `index[C + s]` the slot after s in
 // its class, NONE at the last one, and OUT where slot s is not in the index. Each class is in strictly ascending order of keys.
+#![tactic(auto)]
+
 ghost use Rattle.std.specs.Prelude.{◌≡◌, true, ◌↔◌, List, ℕ, ◌+◌, ◌≤◌, ◌<◌, length};
 ghost use Rattle.numbers.specs.Marks.{LIMIT};
 ghost use Rattle.key_index.specs.Class.{class_of};
@@ -15,14 +17,14 @@ pub mod sound;
 pub const OUT: u64 = 4097;
 
 // Where a key was found.
-#[derive(Drop)]
+#[derive(Clone, Copy)]
 pub enum Found {
     At(Slot),
     Nothing,
 }
 
 // How many slots a walk met, if it found nothing wrong.
-#[derive(Drop)]
+#[derive(Clone, Copy)]
 enum Met {
     Slots(u64),
     Fault,

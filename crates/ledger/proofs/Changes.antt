@@ -104,6 +104,7 @@ module _ (l : Ledger) (w : WellFormed l) where
 -- An epoch changed in its place: keys, slots and lists are as they were
 
 dated_some : (k n : ℕ) (es : List Entry) → NonEmpty es → NonEmpty (dated k n es)
+dated_some k n [] h = elim h [ ]
 dated_some k n (e ∷ es) h = tt
 
 -- a sum that reads no epoch

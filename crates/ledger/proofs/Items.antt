@@ -35,11 +35,13 @@ none_found k (x ∷ xs) h =
     (λ s. absurd (omega (arith, one_same x.key k s))) (λ d. none_found k xs (omega arith))
 
 pub in_keyed : (xs : List Item) (x : Item) → In x xs → 1 ≤ keyed x.key xs
+in_keyed [] x x3 = elim x3 [ ]
 in_keyed (y ∷ ys) x (inl e) = omega (arith, one_same y.key x.key (ap (λ (z : Item). z.key) e))
 in_keyed (y ∷ ys) x (inr i) = let r = in_keyed ys x i in omega arith
 
 -- an item whose key stands once is what is found
 pub in_found : (xs : List Item) (x : Item) → In x xs → keyed x.key xs ≤ 1 → found x.key xs ≡ some x
+in_found [] x x4 h = elim x4 [ ]
 in_found (y ∷ ys) x (inl e) h = if_same y.key x.key (some y) (found x.key ys) (ap (λ (z : Item). z.key) e) ∙ ap some e
 in_found (y ∷ ys) x (inr i) h =
     let c = in_keyed ys x i in
@@ -103,6 +105,7 @@ items_link f e lo (l ∷ ls) r =
   where
     front : (es : List Entry) → NonEmpty es → f ≤ l.frequency →
         item f e ∷ tag l.frequency es (items ls) ≡ place (item f e) (tag l.frequency es (items ls))
+    front [] n h = elim n [ ]
     front (d ∷ ds) n h = sym (if_not_less l.frequency f _ _ h)
 
 -- what stands behind a list stands in the whole
@@ -148,6 +151,7 @@ only_none g k (x ∷ xs) h = go (eqb x.key k) h (λ e. only_none g k xs e)
     go false h r = let q = r (omega arith) in omega arith
 
 only_one : (g : Item → ℕ) (xs : List Item) (x : Item) → In x xs → keyed x.key xs ≤ 1 → sum (only x.key g) xs ≡ g x
+only_one g [] x x4 h = elim x4 [ ]
 only_one g (y ∷ ys) x (inl e) h =
     let s : y.key ≡ x.key = ap (λ (z : Item). z.key) e in
     let z : sum (only x.key g) ys ≡ 0 = only_none g x.key ys (omega (arith, one_same y.key x.key s)) in
@@ -250,6 +254,7 @@ all_place P x (y ∷ ys) p h =
     if_lt (All P) y.frequency x.frequency (λ s. (h.0, ih)) (λ d. (p, h))
 
 pub in_cut : (k : ℕ) (xs : List Item) (x : Item) → In x xs → x.key ≢ k → In x (cut k xs)
+in_cut k [] x x4 d = elim x4 [ ]
 in_cut k (y ∷ ys) x (inl e) d =
     if_eq (In x) y.key k (λ s. absurd (d (ap (λ (z : Item). z.key) (sym e) ∙ s))) (λ q. inl e)
 in_cut k (y ∷ ys) x (inr i) d = let ih = in_cut k ys x i d in if_eq (In x) y.key k (λ s. ih) (λ q. inr ih)

@@ -77,6 +77,7 @@ keys_join h f es (m ∷ ms) r =
 -- Nearer, in two lists put together
 
 nearer_left : (a b : ℕ) (us vs : List ℕ) → Nearer a b us → Nearer a b (us ++ vs)
+nearer_left a b [] vs x' = elim x' [ ]
 nearer_left a b (u ∷ us) vs (inl n) = inl (n.0, in_left b us vs n.1)
 nearer_left a b (u ∷ us) vs (inr n) = inr (nearer_left a b us vs n)
 
@@ -85,6 +86,7 @@ nearer_right a b [] vs n = n
 nearer_right a b (u ∷ us) vs n = inr (nearer_right a b us vs n)
 
 nearer_across : (a b : ℕ) (us vs : List ℕ) → In a us → In b vs → Nearer a b (us ++ vs)
+nearer_across a b [] vs x'' j = elim x'' [ ]
 nearer_across a b (u ∷ us) vs (inl e) j = inl (e, in_right b us vs j)
 nearer_across a b (u ∷ us) vs (inr i) j = inr (nearer_across a b us vs i j)
 
@@ -119,6 +121,7 @@ module _ (g : ℕ → ℕ) (up : NeverFalls g) where
   -- from the higher frequency first: b's level comes after all that are above it
   higher_first : (a b fa fb lo : ℕ) (ls : List Level) → Rising lo ls → fb < fa → g fa ≡ g fb → In a (keys_at fa ls) → In b (keys_at fb ls) →
       Nearer a b (keys_at (g fa) (regroup g ls))
+  higher_first a b fa fb lo [] r h e i j = elim i [ ]
   higher_first a b fa fb lo (l ∷ ls) r h e i j =
       let higher = keys_at (g fa) (regroup g ls) in
       let ih = higher_first a b fa fb l.frequency ls r.3 h e in
@@ -134,6 +137,7 @@ module _ (g : ℕ → ℕ) (up : NeverFalls g) where
       (ih (rw (keys_at_rest l ls fa (λ q. rw (keys_at_below fb (l.frequency + 1) ls (rising_ladder l.frequency ls r.3) (omega arith)) at k)) at i) k)))
 
 in_keys : (xs : List Item) (x : Item) → In x xs → In x.key (map (λ y. y.key) xs)
+in_keys [] x x3 = elim x3 [ ]
 in_keys (y ∷ ys) x (inl e) = inl (ap (λ (z : Item). z.key) e)
 in_keys (y ∷ ys) x (inr i) = inr (in_keys ys x i)
 

@@ -80,6 +80,7 @@ regroup_sum c g (l ∷ ls) =
 
 -- every item is still there, at its new frequency
 pub regroup_in : (g : ℕ → ℕ) (ls : List Level) (x : Item) → In x (items ls) → In (rated g x) (items (regroup g ls))
+regroup_in g [] x i = elim i [ ]
 regroup_in g (l ∷ ls) x i =
     swapped_in (rated g x) _ _ (join_swaps (g l.frequency) l.entries (regroup g ls))
     (tag_in g x l.frequency l.entries (items ls) (items (regroup g ls)) (regroup_in g ls x) i)

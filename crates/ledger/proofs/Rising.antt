@@ -63,6 +63,7 @@ lowest_in [] x e = let z : ◌≡◌ {A = ℕ} 0 1 = cc in absurd (omega arith)
 lowest_in (l ∷ ls) x e = tail_in l.frequency l.entries (items ls) x e
 
 tail_some : (f : ℕ) (es : List Entry) → NonEmpty es → tail f es ≡ none → ⊥
+tail_some f [] n h = elim n [ ]
 tail_some f (e ∷ []) n h = let z : ◌≡◌ {A = ℕ} 0 1 = cc in absurd (omega arith)
 tail_some f (e ∷ (d ∷ es)) n h = tail_some f (d ∷ es) tt h
 

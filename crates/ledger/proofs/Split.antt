@@ -39,6 +39,7 @@ without_at k (x ∷ xs) e ys q hx hy =
     ∙ ap {B = List Entry} (λ zs. x ∷ zs) (without_at k xs e ys q hx.1 hy)
 
 level_some : (f : ℕ) (es : List Entry) (ls : List Level) → NonEmpty es → level f es ls ≡ level_of f es ∷ ls
+level_some f [] ls n = elim n [ ]
 level_some f (e ∷ es) ls n = refl
 
 -- no list is empty

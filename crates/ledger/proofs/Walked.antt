@@ -22,6 +22,7 @@ tag_in f (e ∷ es) xs x (inl p) = inl (inl p)
 tag_in f (e ∷ es) xs x (inr i) = ⊎_elim (λ j. inl (inr j)) (λ j. inr j) (tag_in f es xs x i)
 
 in_tag : (f : ℕ) (es : List Entry) (xs : List Item) (x : Item) → In x (tag f es []) → In x (tag f es xs)
+in_tag f [] xs x x3 = elim x3 [ ]
 in_tag f (e ∷ es) xs x (inl p) = inl p
 in_tag f (e ∷ es) xs x (inr i) = inr (in_tag f es xs x i)
 
@@ -55,6 +56,7 @@ list_of_sum g f (l ∷ ls) =
 
 -- an item is a member of the list of its frequency
 pub in_list_of : (a : ℕ) (ls : List Level) → Rising a ls → (x : Item) → In x (items ls) → In x (list_of x.frequency ls)
+in_list_of a [] r x i = elim i [ ]
 in_list_of a (l ∷ ls) r x i =
     ⊎_elim
     (λ j.
@@ -78,6 +80,7 @@ in_slot_none s (x ∷ xs) h =
 
 -- an item whose slot stands once is all that the slot has
 in_slot_one : (xs : List Item) (x : Item) → In x xs → slotted x.slot xs ≤ 1 → in_slot x.slot xs ≡ x ∷ []
+in_slot_one [] x x4 h = elim x4 [ ]
 in_slot_one (y ∷ ys) x (inl e) h =
     let s : y.slot ≡ x.slot = ap (λ (z : Item). z.slot) e in
     if_same y.slot x.slot (y ∷ in_slot x.slot ys) (in_slot x.slot ys) s

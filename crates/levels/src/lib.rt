@@ -1,6 +1,8 @@
 // The levels of the bound slots: for each frequency in use the list of the slots that have it, from the lowest frequency up. A slot has its
 // frequency in `freqs`, its neighbours in `prevs` and `nexts`, and its record in the bucket table. A slot that is in no level is marked free:
 // its two links are its own number and its frequency is 0.
+#![tactic(auto)]
+
 ghost use Rattle.std.specs.Prelude.{◌≡◌, true, ◌↔◌, ◌<◌, length, get_or};
 ghost use Rattle.lists.specs.Marks.{count};
 ghost use Rattle.bucket_table.specs.Records.{InTable};
@@ -14,21 +16,21 @@ use numbers::{Frequency, LIMIT, NONE, Slot};
 pub mod sound;
 
 // What a touch answers: the slot's new frequency, and the state.
-#[derive(Drop)]
+#[derive(Clone, Copy)]
 pub struct Touched {
     pub frequency: Frequency,
     pub state: Buckets,
 }
 
 // The record below the place that a slot has left, and the state without the slot.
-#[derive(Drop)]
+#[derive(Clone, Copy)]
 pub struct Left {
     pub at: u64,
     pub state: Buckets,
 }
 
 // Whether a list was found, and how many slots are left to find.
-#[derive(Drop)]
+#[derive(Clone, Copy)]
 struct Walked {
     ok: bool,
     left: u64,

@@ -1,5 +1,7 @@
 // The calls of `LfuCache` that change one key, on any lent tables. Each checks first; where the tables hold a cache it does what the
 // cache's call does, else it says why not and leaves everything.
+#![tactic(auto)]
+
 ghost use Rattle.ledger.specs.History as ledger;
 ghost use Rattle.promise.specs.Promise.{Makes};
 ghost use Rattle.answers.specs.Replies.{level_reply, insertion_reply, value_reply, least_used_reply};

@@ -1,4 +1,6 @@
 // The batches of `LfuCache`, on any lent tables: one check, then the single call for each item in order, past refusals.
+#![tactic(auto)]
+
 ghost use Rattle.std.specs.Prelude.{◌≡◌};
 ghost use Rattle.ledger.specs.CacheCalls.{remove_batch_call, touch_batch_call};
 ghost use Rattle.ledger.specs.Buckets.{was_done};

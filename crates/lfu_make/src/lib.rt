@@ -1,4 +1,6 @@
 // The calls of `LfuCache` on whole tables: making them, which takes any contents, and clearing them.
+#![tactic(auto)]
+
 ghost use Rattle.ledger.specs.Cache.{new_cache};
 ghost use Rattle.ledger.specs.History.{Clear};
 ghost use Rattle.promise.specs.Promise.{Makes};

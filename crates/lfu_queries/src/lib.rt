@@ -1,4 +1,6 @@
 // The calls of `LfuCache` that only answer, on any lent tables: each checks first.
+#![tactic(auto)]
+
 ghost use Rattle.ledger.specs.History as ledger;
 ghost use Rattle.promise.specs.Promise.{Answers};
 ghost use Rattle.answers.specs.Replies.{count_reply, value_reply, least_used_reply};

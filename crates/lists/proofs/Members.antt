@@ -22,6 +22,7 @@ module _ {A : Type 0} where
   all_both P Q R f (x ∷ xs) p q = (f x p.0 q.0, all_both P Q R f xs p.1 q.1)
 
   pub all_in : (P : A → Type 0) (xs : List A) (x : A) → All P xs → In x xs → P x
+  all_in P [] x h x4 = elim x4 [ ]
   all_in P (y ∷ ys) x h (inl e) = subst P e h.0
   all_in P (y ∷ ys) x h (inr i) = all_in P ys x h.1 i
 
@@ -66,12 +67,14 @@ module _ {A : Type 0} where
     pub is : xs ≡ before ++ x ∷ after
 
   pub in_split : (x : A) (xs : List A) → In x xs → Split x xs
+  in_split x [] x'' = elim x'' [ ]
   in_split x (y ∷ ys) (inl e) = record { before = []; after = ys; is = λ i. e i ∷ ys }
   in_split x (y ∷ ys) (inr i) =
       let r = in_split x ys i in
       record { before = y ∷ r.before; after = r.after; is = ap {B = List A} (λ zs. y ∷ zs) r.is }
 
   pub in_left : (x : A) (us vs : List A) → In x us → In x (us ++ vs)
+  in_left x [] vs x'' = elim x'' [ ]
   in_left x (u ∷ us) vs (inl e) = inl e
   in_left x (u ∷ us) vs (inr i) = inr (in_left x us vs i)
 
@@ -101,6 +104,7 @@ module _ {A : Type 0} where
   in_put x (u ∷ us) s vs (inr i) = inr (in_put x us s vs i)
 
   pub in_length : (x : A) (xs : List A) → In x xs → 1 ≤ length xs
+  in_length x [] i = elim i [ ]
   in_length x (y ∷ ys) i = omega arith
 
   pub sum_append : (g : A → ℕ) (us vs : List A) → sum g (us ++ vs) ≡ sum g us + sum g vs
@@ -116,6 +120,7 @@ module _ {A : Type 0} where
   sum_none g (x ∷ xs) e = let p = e.0 in let ih = sum_none g xs e.1 in omega arith
 
   pub in_sum : (g : A → ℕ) (xs : List A) (x : A) → In x xs → g x ≤ sum g xs
+  in_sum g [] x x3 = elim x3 [ ]
   in_sum g (y ∷ ys) x (inl e) = let p = ap g e in omega arith
   in_sum g (y ∷ ys) x (inr i) = let p = in_sum g ys x i in omega arith
 
@@ -149,6 +154,7 @@ final_from a s (suc n) = let r = final_from s (s + 1) n in omega arith
 
 -- being a member, by counting
 pub in_times : (s : ℕ) (xs : List ℕ) → In s xs → 1 ≤ times s xs
+in_times s [] x' = elim x' [ ]
 in_times s (x ∷ xs) (inl e) = omega (arith, one_same x s e)
 in_times s (x ∷ xs) (inr i) = let r = in_times s xs i in omega arith
 

@@ -1,1 +1,3 @@
 // Mathematics only: lists, and what is said of all of their members. See specs/ and proofs/.
+#![tactic(auto)]
+

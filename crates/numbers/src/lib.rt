@@ -1,4 +1,6 @@
 // The three kinds of number that must not be mixed, the levels of a frequency, and the answers of document 01's table.
+#![tactic(auto)]
+
 ghost use Rattle.std.specs.Prelude.{◌≡◌, true, ◌↔◌};
 ghost use Rattle.numbers.specs.Frequency.{raised, halved_times, cap_of, CEILING};
 ghost use Rattle.numbers.specs.Answer.{number_of};
@@ -11,15 +13,15 @@ pub const LIMIT: u64 = 4096;
 pub const NONE: u64 = 4096;
 
 // What a guest is known by.
-#[derive(Drop)]
+#[derive(Clone, Copy)]
 pub struct Key(pub u64);
 
 // The place of a guest in every table.
-#[derive(Drop)]
+#[derive(Clone, Copy)]
 pub struct Slot(pub u64);
 
 // How often a guest was hit, counted from 1.
-#[derive(Drop)]
+#[derive(Clone, Copy)]
 pub struct Frequency(pub u64);
 
 impl Frequency {
@@ -74,7 +76,7 @@ impl Frequency {
 }
 
 // What a caller may be told.
-#[derive(Drop)]
+#[derive(Clone, Copy)]
 pub enum Answer {
     Done,
     Absent,

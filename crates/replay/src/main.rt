@@ -2,6 +2,8 @@
 // the files that they name, one after another, with a line `--` behind each; `-` is standard input. A read that fails ends an input; output
 // that cannot be written ends a replay. What it is held to, args, data, stdin and stdout beside src: inputs that reach every way through it,
 // with what the original printed for them, and the case C12 of document 01.
+#![tactic(auto)]
+
 use buckets_tables::State;
 use trace::input::{HEADER, header};
 use trace::{Header, Line, Word};
@@ -10,7 +12,7 @@ mod sound;
 
 // Whether there is more to read, whether what was printed could be written, how many bytes were read and how many printed, and the state
 // after them.
-#[derive(Drop)]
+#[derive(Clone, Copy)]
 pub struct Turned {
     pub more: bool,
     pub written: bool,

@@ -1,5 +1,7 @@
 // Many inputs of the trace program, one after another: each is printed as a whole, with a line `--` behind it. Standard input is a pack of
 // them: for each its length in two bytes, low byte first, and then its bytes. The pack ends where it ends, or at an input that is too long.
+#![tactic(auto)]
+
 ghost use Rattle.std.specs.Prelude.{◌≤◌};
 ghost use Rattle.trace.specs.Ends.{PART as FULL};
 
@@ -8,7 +10,7 @@ use trace::input::{PART, two_bytes};
 mod sound;
 
 // Whether there may be another input; how long this one is, and how many bytes it prints.
-#[derive(Drop)]
+#[derive(Clone, Copy)]
 pub struct Case {
     pub more: bool,
     pub read: usize,

@@ -1,4 +1,6 @@
 // Hands out the slots of a table. `arena[s]` is the free slot after s, NONE at the last one, and USED at a slot in use.
+#![tactic(auto)]
+
 ghost use Rattle.std.specs.Prelude.{◌≡◌, true, ◌↔◌, ◌≤◌, length};
 ghost use Rattle.numbers.specs.Marks.{LIMIT};
 ghost use Rattle.slot_arena.specs.Arena.{InUse, ArenaSound};
@@ -12,21 +14,21 @@ pub mod sound;
 pub const USED: u64 = 4097;
 
 // Where the free order begins and ends, NONE where no slot is free.
-#[derive(Drop)]
+#[derive(Clone, Copy)]
 pub struct Order {
     pub first: u64,
     pub last: u64,
 }
 
 // A slot that was handed out, and the free order after it.
-#[derive(Drop)]
+#[derive(Clone, Copy)]
 pub struct Taken {
     pub slot: Slot,
     pub order: Order,
 }
 
 // How far the free order was followed: where the walk stopped, after how many slots, and the last of them.
-#[derive(Drop)]
+#[derive(Clone, Copy)]
 struct Reached {
     at: u64,
     steps: u64,

@@ -1,11 +1,13 @@
 // The trace format: the words and the lines that a record of a trace prints, and what an input begins with. How an input begins and ends
 // stands in `input`, writing a line into a buffer in `sound`.
+#![tactic(auto)]
+
 
 pub mod input;
 pub mod sound;
 
 // The words that begin a line.
-#[derive(Drop)]
+#[derive(Clone, Copy)]
 pub enum Word {
     New,
     NewOut,
@@ -27,7 +29,7 @@ pub enum Word {
 }
 
 // A word, and the numbers after it.
-#[derive(Drop)]
+#[derive(Clone, Copy)]
 pub enum Line {
     Plain(Word),
     One(Word, u64),
@@ -35,7 +37,7 @@ pub enum Line {
 }
 
 // What the first bytes of an input come to: a word that is printed as the only line, or the capacity that the records begin with.
-#[derive(Drop)]
+#[derive(Clone, Copy)]
 pub enum Header {
     Stops(Word),
     Begins(usize),

@@ -1,5 +1,7 @@
 // A record of a trace on the cache's tables: what it asks for, and what is answered on the way to its line. The steps themselves stand in
 // `sound`.
+#![tactic(auto)]
+
 use buckets_tables::State;
 use numbers::Key;
 use trace::Line;
@@ -7,7 +9,7 @@ use trace::Line;
 pub mod sound;
 
 // What a record asks for beside its operation, and the state that it meets.
-#[derive(Drop)]
+#[derive(Clone, Copy)]
 pub struct Ask {
     pub state: State,
     pub key: Key,
@@ -15,14 +17,14 @@ pub struct Ask {
 }
 
 // The line that a record prints, and the state after it.
-#[derive(Drop)]
+#[derive(Clone, Copy)]
 pub struct Told {
     pub line: Line,
     pub state: State,
 }
 
 // Where the next line goes, and the state after the lines so far.
-#[derive(Drop)]
+#[derive(Clone, Copy)]
 pub struct Stepped {
     pub at: usize,
     pub state: State,
