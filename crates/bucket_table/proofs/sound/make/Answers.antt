@@ -1,0 +1,8 @@
+-- The ring's law for a record that comes in after `at`, and the arena's for one that is taken.
+use borrow.Author.Rules.{rules}
+use Rattle.bucket_table.proofs.Steps as laws
+use Rattle.bucket_table.proofs.sound.make.Goals as goal
+
+pub returns : goal.returns
+returns c =
+    laws.makes _ _ _ _ _ c.requires _ c.above-higher.ensures _ _ c.take-taken.ensures _ _ _ _ _ c.fill.ensures c.link-bottom.ensures c.link-top.ensures

@@ -1,0 +1,19 @@
+-- Each item is one removal more, and the count takes in its answer.
+use mathlib.Core.Path.{sym, ◌∙◌}
+use Prim.Native.Nat.{◌-◌}
+use native.Mathlib.Omega.{arith}
+use lib.ListN.{length}
+use borrow.Author.Rules.{rules}
+use Rattle.buckets_tables.specs.Tables.{tables}
+use Rattle.answers.specs.Replies.{level_reply}
+use Rattle.buckets_batches.proofs.Batching as laws
+use Rattle.buckets_batches.proofs.Batching.{Batching, removes}
+use Rattle.buckets_batches.proofs.sound.remove_batch.Given as goal
+
+abbrev pub invariant-loop-i : goal.invariant-loop-i
+invariant-loop-i l =
+    Batching removes l.items (tables l.initial.keys l.initial.freqs l.initial.epochs l.initial.prevs l.initial.nexts l.initial.arena l.initial.index l.initial.buckets l.initial.spares) l.initial.state l.i l.done (tables l.keys l.freqs l.epochs l.prevs l.nexts l.arena l.index l.buckets l.spares) l.state
+
+abbrev pub decreases-loop-i : goal.decreases-loop-i
+decreases-loop-i l =
+    length l.items - l.i

@@ -1,0 +1,54 @@
+-- A bound key is let go from where the index finds it; its frequency is read before.
+use mathlib.Core.Path.{refl, subst}
+use borrow.Author.Rules.{rules}
+use Rattle.key_index.specs.Index.{Finds}
+use Rattle.buckets_tables.proofs.Asked as asked
+use Rattle.buckets_tables.proofs.Doing as doing
+use Rattle.buckets_calls.proofs.sound.remove.Goals as goal
+
+pub offset_bounds-freqs-slot : goal.offset_bounds-freqs-slot
+offset_bounds-freqs-slot c =
+    let limit = asked.slot_limit _ _ _ (doing.found_bound _ _ _ _ c.requires (subst (Finds c.args.index.now c.args.keys.now c.args.key.0) c.slot-1.given.1 c.find.ensures)) in search rules
+
+pub bounds-freqs-slot : goal.bounds-freqs-slot
+bounds-freqs-slot c =
+    (asked.slot_sized _ _ _ (doing.found_bound _ _ _ _ c.requires (subst (Finds c.args.index.now c.args.keys.now c.args.key.0) c.slot-1.given.1 c.find.ensures))).3
+
+pub let_go-after-requires : goal.let_go-after-requires
+let_go-after-requires c =
+    doing.found_bound _ _ _ _ c.requires (subst (Finds c.args.index.now c.args.keys.now c.args.key.0) c.slot-1.given.1 c.find.ensures)
+
+pub shape_of-keys-in-At : goal.shape_of-keys-in-At
+shape_of-keys-in-At c = c.let_go-after.auto.0
+
+pub shape_of-freqs : goal.shape_of-freqs
+shape_of-freqs c = c.let_go-after.auto.1.0
+
+pub shape_of-epochs : goal.shape_of-epochs
+shape_of-epochs c = c.let_go-after.auto.1.1.0
+
+pub shape_of-prevs : goal.shape_of-prevs
+shape_of-prevs c = c.let_go-after.auto.1.1.1.0
+
+pub shape_of-nexts : goal.shape_of-nexts
+shape_of-nexts c = c.let_go-after.auto.1.1.1.1.0
+
+pub shape_of-arena : goal.shape_of-arena
+shape_of-arena c = c.let_go-after.auto.1.1.1.1.1.0
+
+pub shape_of-index-in-At : goal.shape_of-index-in-At
+shape_of-index-in-At c = c.let_go-after.auto.1.1.1.1.1.1.0
+
+pub shape_of-buckets : goal.shape_of-buckets
+shape_of-buckets c = c.let_go-after.auto.1.1.1.1.1.1.1.0
+
+pub shape_of-spares : goal.shape_of-spares
+shape_of-spares c = c.let_go-after.auto.1.1.1.1.1.1.1.1.0
+
+pub returns-in-At : goal.returns-in-At
+returns-in-At c =
+    doing.remove_done _ _ _ _ _ (subst (Finds c.args.index.now c.args.keys.now c.args.key.0) c.slot-1.given.1 c.find.ensures) refl _ _ c.let_go-after.ensures
+
+pub returns-in-Nothing : goal.returns-in-Nothing
+returns-in-Nothing c =
+    doing.remove_absent _ _ _ (subst (Finds c.args.index.now c.args.keys.now c.args.key.0) c.enum_told-1.given.1 c.find.ensures)

@@ -1,0 +1,17 @@
+-- The tables agree on all slots passed.
+use mathlib.Core.Path.{refl}
+use Prim.Native.Nat.{◌≤◌, ◌-◌}
+use native.Mathlib.Omega.{arith}
+use lib.ListN.{length}
+use borrow.Author.Count.{below_none, below_more}
+use borrow.Author.Tests.{not-true, not-false}
+use borrow.Author.Rules.{rules}
+use Rattle.lists.proofs.Tests.{says_no, said_no}
+use Rattle.buckets_check.specs.Check.{AgreeBelow}
+use Rattle.buckets_check.proofs.slots_agree.Given as goal
+
+abbrev pub invariant-loop-slot : goal.invariant-loop-slot
+invariant-loop-slot l = (l.slot ≤ length l.keys) × AgreeBelow l.keys l.epochs l.nexts l.arena l.index l.slot
+
+abbrev pub decreases-loop-slot : goal.decreases-loop-slot
+decreases-loop-slot l = length l.keys - l.slot

@@ -1,0 +1,33 @@
+-- The lists are regrouped, and the lowest frequency is read again.
+use borrow.Author.Rules.{rules}
+use Rattle.buckets_regroup.proofs.Changes.{changed_lowers}
+use Rattle.buckets_regroup.proofs.Regrouping.{some_lists, lists_after, regroup_does}
+use Rattle.buckets_regroup.proofs.sound.regrouped.Goals as goal
+
+pub regroup-records-requires : goal.regroup-records-requires
+regroup-records-requires c = some_lists _ _ c.requires
+
+pub lowest_frequency-lowest-requires : goal.lowest_frequency-lowest-requires
+lowest_frequency-lowest-requires c = lists_after _ _ _ _ _ c.regroup-records.ensures c.requires
+
+pub shape_of-freqs : goal.shape_of-freqs
+shape_of-freqs c = c.regroup-records.auto.0
+
+pub shape_of-prevs : goal.shape_of-prevs
+shape_of-prevs c = c.regroup-records.auto.1.0
+
+pub shape_of-nexts : goal.shape_of-nexts
+shape_of-nexts c = c.regroup-records.auto.1.1.0
+
+pub shape_of-buckets : goal.shape_of-buckets
+shape_of-buckets c = c.regroup-records.auto.1.1.1.0
+
+pub shape_of-spares : goal.shape_of-spares
+shape_of-spares c = c.regroup-records.auto.1.1.1.1.0
+
+pub returns : goal.returns
+returns c =
+    let kept = c.regroup-records.auto in
+    regroup_does _ _ _ _ _ c.regroup-records.ensures (changed_lowers c.args.change)
+    (record { freqs_size = kept.0; prevs_size = kept.1.0; nexts_size = kept.1.1.0; buckets_size = kept.1.1.1.0; spares_size = kept.1.1.1.1.0 })
+    _ c.lowest_frequency-lowest.ensures _ c.recounted.ensures

@@ -1,0 +1,46 @@
+-- The key takes the slot at the tail of the lowest list; whose key that was is read before.
+use borrow.Author.Rules.{rules}
+use Rattle.buckets_tables.proofs.Asked as asked
+use Rattle.cache_tables.proofs.Asking as asking
+use Rattle.cache_tables.proofs.Caching as caching
+use Rattle.cache_tables.proofs.Inserting as inserting
+use Rattle.cache_inserts.proofs.sound.displace.Goals as goal
+
+pub lowest-slot-requires : goal.lowest-slot-requires
+lowest-slot-requires c = let w = c.requires.unbound.sound.1 in (_, _, _, _, (w.slots, w.lists))
+
+pub returns-then-slot-eq-NONE : goal.returns-then-slot-eq-NONE
+returns-then-slot-eq-NONE c =
+    λ vs v. inserting.insert_full_lem _ vs _ _ v c.requires.unbound.missed c.requires.full (caching.missed_least _ _ _ (λ l h. c.lowest-slot.ensures.answer _ _ _ _ _ h.lists) c.if-slot-eq-NONE.true)
+
+pub replace-after-requires : goal.replace-after-requires
+replace-after-requires c =
+    asking.out_replaceable _ _ _ _ c.requires.unbound.sound c.requires.unbound.missed c.requires.full (caching.sought_least _ _ _ (λ l h. c.lowest-slot.ensures.answer _ _ _ _ _ h.lists) c.if-slot-eq-NONE.false)
+
+pub shape_of-keys : goal.shape_of-keys
+shape_of-keys c = c.replace-after.auto.0
+
+pub shape_of-freqs : goal.shape_of-freqs
+shape_of-freqs c = c.replace-after.auto.1.0
+
+pub shape_of-epochs : goal.shape_of-epochs
+shape_of-epochs c = c.replace-after.auto.1.1.0
+
+pub shape_of-prevs : goal.shape_of-prevs
+shape_of-prevs c = c.replace-after.auto.1.1.1.0
+
+pub shape_of-nexts : goal.shape_of-nexts
+shape_of-nexts c = c.replace-after.auto.1.1.1.1.0
+
+pub shape_of-arena : goal.shape_of-arena
+shape_of-arena c = c.replace-after.auto.1.1.1.1.1.0
+
+pub shape_of-index : goal.shape_of-index
+shape_of-index c = c.replace-after.auto.1.1.1.1.1.1.0
+
+pub shape_of-buckets : goal.shape_of-buckets
+shape_of-buckets c = c.replace-after.auto.1.1.1.1.1.1.1.0
+
+pub returns : goal.returns
+returns c =
+    λ vs v. inserting.insert_out _ vs _ _ v c.requires.unbound.missed c.requires.full _ (caching.sought_least _ _ _ (λ l h. c.lowest-slot.ensures.answer _ _ _ _ _ h.lists) c.if-slot-eq-NONE.false) _ _ c.replace-after.ensures

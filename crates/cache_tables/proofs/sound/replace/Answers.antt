@@ -1,0 +1,38 @@
+-- Letting go frees the slot that binding then takes.
+use mathlib.Core.Path.{◌∙◌}
+use borrow.Author.Rules.{rules}
+use Rattle.cache_tables.proofs.Replacing as replacing
+use Rattle.cache_tables.proofs.sound.replace.Goals as goal
+
+pub let_go-left-requires : goal.let_go-left-requires
+let_go-left-requires c = replacing.replace_bound _ _ _ _ c.requires
+
+pub bind-placed-requires : goal.bind-placed-requires
+bind-placed-requires c = replacing.replace_room _ _ _ _ _ _ c.let_go-left.ensures c.requires
+
+pub shape_of-keys : goal.shape_of-keys
+shape_of-keys c = c.bind-placed.auto.0 ∙ c.let_go-left.auto.0
+
+pub shape_of-freqs : goal.shape_of-freqs
+shape_of-freqs c = c.bind-placed.auto.1.0 ∙ c.let_go-left.auto.1.0
+
+pub shape_of-epochs : goal.shape_of-epochs
+shape_of-epochs c = c.bind-placed.auto.1.1.0 ∙ c.let_go-left.auto.1.1.0
+
+pub shape_of-prevs : goal.shape_of-prevs
+shape_of-prevs c = c.bind-placed.auto.1.1.1.0 ∙ c.let_go-left.auto.1.1.1.0
+
+pub shape_of-nexts : goal.shape_of-nexts
+shape_of-nexts c = c.bind-placed.auto.1.1.1.1.0 ∙ c.let_go-left.auto.1.1.1.1.0
+
+pub shape_of-arena : goal.shape_of-arena
+shape_of-arena c = c.bind-placed.auto.1.1.1.1.1.0 ∙ c.let_go-left.auto.1.1.1.1.1.0
+
+pub shape_of-index : goal.shape_of-index
+shape_of-index c = c.bind-placed.auto.1.1.1.1.1.1.0 ∙ c.let_go-left.auto.1.1.1.1.1.1.0
+
+pub shape_of-buckets : goal.shape_of-buckets
+shape_of-buckets c = c.bind-placed.auto.1.1.1.1.1.1.1.0 ∙ c.let_go-left.auto.1.1.1.1.1.1.1.0
+
+pub returns : goal.returns
+returns c = replacing.replaced _ _ _ _ _ _ c.let_go-left.ensures _ _ c.bind-placed.ensures

@@ -1,0 +1,10 @@
+-- Key by key: those so far and those to come are all of them.
+use Rattle.std.proofs.Common.{◌-◌, length, rules}
+use Rattle.drive_buckets.proofs.Keys.{Filling, filling_start, filling_more, filling_end}
+use Rattle.drive_buckets.proofs.batches.fill.Given as goal
+
+abbrev pub invariant-loop-j : goal.invariant-loop-j
+invariant-loop-j l = Filling l.first l.initial.items l.items l.key l.j
+
+abbrev pub decreases-loop-j : goal.decreases-loop-j
+decreases-loop-j l = length l.initial.items - l.j

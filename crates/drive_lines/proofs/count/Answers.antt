@@ -1,0 +1,13 @@
+-- By the answer's case.
+use mathlib.Core.Path.{sym, ap}
+use borrow.Author.Rules.{rules}
+use Rattle.answers.specs.declared.Count.{Count}
+use Rattle.answers.specs.Replies.{count_reply}
+use Rattle.drive_lines.specs.Lines.{reply_text}
+use Rattle.drive_lines.proofs.count.Goals as goal
+
+pub returns-in-Is : goal.returns-in-Is
+returns-in-Is c = sym (ap (λ (a : Count). reply_text (count_reply a)) c.answer-1.given.1)
+
+pub returns-in-Refused : goal.returns-in-Refused
+returns-in-Refused c = sym (ap (λ (a : Count). reply_text (count_reply a)) c.answer-in-Refused-1.given.1)

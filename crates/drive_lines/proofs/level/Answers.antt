@@ -1,0 +1,13 @@
+-- By the answer's case.
+use mathlib.Core.Path.{sym, ap}
+use borrow.Author.Rules.{rules}
+use Rattle.answers.specs.declared.Level.{Level}
+use Rattle.answers.specs.Replies.{level_reply}
+use Rattle.drive_lines.specs.Lines.{reply_text}
+use Rattle.drive_lines.proofs.level.Goals as goal
+
+pub returns-in-At : goal.returns-in-At
+returns-in-At c = sym (ap (λ (a : Level). reply_text (level_reply a)) c.answer-1.given.1)
+
+pub returns-in-Refused : goal.returns-in-Refused
+returns-in-Refused c = sym (ap (λ (a : Level). reply_text (level_reply a)) c.answer-in-Refused-1.given.1)

@@ -1,0 +1,9 @@
+-- A colon, and the number behind it.
+use native.Mathlib.Omega.{arith}
+use borrow.Author.Rules.{rules}
+use Rattle.trace.specs.Lines.{DIGITS}
+use Rattle.trace.proofs.Writing.{spells_then, spelled}
+use Rattle.drive_walk.proofs.sound.coloned.Goals as goal
+
+pub returns : goal.returns
+returns c = spells_then _ _ _ _ _ _ _ _ 1 DIGITS (spelled _ _ _ _ _ 1 (omega arith) c.put-next.ensures) c.number.ensures

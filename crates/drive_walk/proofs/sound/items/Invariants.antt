@@ -1,0 +1,12 @@
+-- Each turn writes the item that the reader stands at; what is left is shown from there on.
+use mathlib.Core.Path.{sym, ◌∙◌}
+use borrow.Author.Rules.{rules}
+use native.Mathlib.Omega.{arith}
+use Rattle.drive_walk.proofs.Items.{linked, sizes, none_left, no_room, Written, begun, ended, more}
+use Rattle.drive_walk.proofs.sound.items.Given as goal
+
+abbrev pub invariant-loop-left : goal.invariant-loop-left
+invariant-loop-left l = Written l.k l.e l.n l.initial.stand l.initial.out l.at l.out l.stand l.end l.left
+
+abbrev pub decreases-loop-left : goal.decreases-loop-left
+decreases-loop-left l = l.left

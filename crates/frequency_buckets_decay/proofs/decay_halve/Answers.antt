@@ -1,0 +1,35 @@
+-- Checked, then done on sound tables; or refused by the check, with nothing changed.
+use mathlib.Core.Path.{refl}
+use borrow.Author.Rules.{rules}
+use Rattle.ledger.specs.Regroup.{decay_halve}
+use Rattle.ledger.specs.BucketCalls.{calls, DecayHalve}
+use Rattle.buckets_tables.proofs.Public as public
+use Rattle.buckets_calls.proofs.Plain.{plain_refused}
+use Rattle.frequency_buckets_decay.proofs.decay_halve.Goals as goal
+
+pub decay_halve_times-after-requires : goal.decay_halve_times-after-requires
+decay_halve_times-after-requires c = (_, _, _, _, public.checked _ _ _ _ c.refusal-why.ensures c.is_done.ensures c.if-is_done.true)
+
+pub shape_of-freqs-then-is_done : goal.shape_of-freqs-then-is_done
+shape_of-freqs-then-is_done c = c.decay_halve_times-after.auto.0
+
+pub shape_of-prevs-then-is_done : goal.shape_of-prevs-then-is_done
+shape_of-prevs-then-is_done c = c.decay_halve_times-after.auto.1.0
+
+pub shape_of-nexts-then-is_done : goal.shape_of-nexts-then-is_done
+shape_of-nexts-then-is_done c = c.decay_halve_times-after.auto.1.1.0
+
+pub shape_of-buckets-then-is_done : goal.shape_of-buckets-then-is_done
+shape_of-buckets-then-is_done c = c.decay_halve_times-after.auto.1.1.1.0
+
+pub shape_of-spares-then-is_done : goal.shape_of-spares-then-is_done
+shape_of-spares-then-is_done c = c.decay_halve_times-after.auto.1.1.1.1.0
+
+pub returns-then-is_done : goal.returns-then-is_done
+unfolding calls decay_halve
+returns-then-is_done c =
+    public.makes _ _ _ _ c.refusal-why.ensures c.is_done.ensures DecayHalve _ _ _ c.if-is_done.true (c.decay_halve_times-after.ensures _ _ _ _)
+
+pub returns : goal.returns
+returns c =
+    public.refuses _ _ _ _ c.refusal-why.ensures c.is_done.ensures _ _ c.if-is_done.false (plain_refused _ _ c.is_done.ensures c.if-is_done.false)

@@ -1,0 +1,45 @@
+-- Checked, then done on sound tables; or refused by the check, with nothing changed.
+use mathlib.Core.Path.{refl}
+use borrow.Author.Rules.{rules}
+use Rattle.ledger.specs.BucketCalls.{calls, Clear}
+use Rattle.buckets_tables.proofs.Public as public
+use Rattle.buckets_calls.proofs.Plain.{plain_refused}
+use Rattle.buckets_tables.proofs.Clearing.{sound_fitting, clear_does}
+use Rattle.frequency_buckets_make.proofs.clear.Goals as goal
+
+pub make-made-requires : goal.make-made-requires
+make-made-requires c = sound_fitting _ _ (public.checked _ _ _ _ c.refusal-why.ensures c.is_done.ensures c.if-is_done.true)
+
+pub shape_of-keys-then-is_done : goal.shape_of-keys-then-is_done
+shape_of-keys-then-is_done c = c.make-made.auto.0
+
+pub shape_of-freqs-then-is_done : goal.shape_of-freqs-then-is_done
+shape_of-freqs-then-is_done c = c.make-made.auto.1.0
+
+pub shape_of-epochs-then-is_done : goal.shape_of-epochs-then-is_done
+shape_of-epochs-then-is_done c = c.make-made.auto.1.1.0
+
+pub shape_of-prevs-then-is_done : goal.shape_of-prevs-then-is_done
+shape_of-prevs-then-is_done c = c.make-made.auto.1.1.1.0
+
+pub shape_of-nexts-then-is_done : goal.shape_of-nexts-then-is_done
+shape_of-nexts-then-is_done c = c.make-made.auto.1.1.1.1.0
+
+pub shape_of-arena-then-is_done : goal.shape_of-arena-then-is_done
+shape_of-arena-then-is_done c = c.make-made.auto.1.1.1.1.1.0
+
+pub shape_of-index-then-is_done : goal.shape_of-index-then-is_done
+shape_of-index-then-is_done c = c.make-made.auto.1.1.1.1.1.1.0
+
+pub shape_of-spares-then-is_done : goal.shape_of-spares-then-is_done
+shape_of-spares-then-is_done c = c.make-made.auto.1.1.1.1.1.1.1.0
+
+pub returns-then-is_done : goal.returns-then-is_done
+unfolding calls
+returns-then-is_done c =
+    public.makes _ _ _ _ c.refusal-why.ensures c.is_done.ensures
+    (Clear) _ _ _ c.if-is_done.true (clear_does _ _ _ _ _ _ _ _ _ _ _ c.make-made.ensures)
+
+pub returns : goal.returns
+returns c =
+    public.refuses _ _ _ _ c.refusal-why.ensures c.is_done.ensures _ _ c.if-is_done.false (plain_refused _ _ c.is_done.ensures c.if-is_done.false)

@@ -1,0 +1,13 @@
+-- Checked, then told by the state.
+use mathlib.Core.Path.{refl}
+use borrow.Author.Rules.{rules}
+use Rattle.ledger.specs.BucketCalls.{asks, Len}
+use Rattle.buckets_tables.proofs.Public as public
+use Rattle.frequency_buckets_queries.proofs.len.Goals as goal
+
+pub returns-then-is_done : goal.returns-then-is_done
+unfolding asks
+returns-then-is_done c = public.answers _ _ _ _ c.refusal-why.ensures c.is_done.ensures (Len) _ c.if-is_done.true (c.len.ensures _)
+
+pub returns : goal.returns
+returns c = public.refuses _ _ _ _ c.refusal-why.ensures c.is_done.ensures _ _ c.if-is_done.false refl

@@ -1,0 +1,17 @@
+-- Checked, then told by the links.
+use mathlib.Core.Path.{refl}
+use borrow.Author.Rules.{rules}
+use Rattle.ledger.specs.BucketCalls.{asks, WalkStep}
+use Rattle.buckets_tables.proofs.Public as public
+use Rattle.frequency_buckets_queries.proofs.walk.step.Goals as goal
+
+pub walk_step-requires : goal.walk_step-requires
+walk_step-requires c = (_, _, _, _, _, _, public.checked _ _ _ _ c.refusal-why.ensures c.is_done.ensures c.if-is_done.true)
+
+pub returns-then-is_done : goal.returns-then-is_done
+unfolding asks
+returns-then-is_done c =
+    public.answers _ _ _ _ c.refusal-why.ensures c.is_done.ensures (WalkStep _) _ c.if-is_done.true (c.walk_step.ensures _ _ _ _ _ _)
+
+pub returns : goal.returns
+returns c = public.refuses _ _ _ _ c.refusal-why.ensures c.is_done.ensures _ _ c.if-is_done.false refl

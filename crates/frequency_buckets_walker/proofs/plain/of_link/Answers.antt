@@ -1,0 +1,14 @@
+-- Each arm is the definition's.
+use mathlib.Core.Path.{sym, ap}
+use borrow.Author.Rules.{rules}
+use Rattle.frequency_buckets_walker.specs.Stands.{of_link}
+use Rattle.frequency_buckets_walker.proofs.plain.of_link.Goals as goal
+
+pub returns-in-At : goal.returns-in-At
+returns-in-At c = ap of_link (sym c.after-1.given.1)
+
+pub returns-in-NoMore : goal.returns-in-NoMore
+returns-in-NoMore c = ap of_link (sym c.enum_told-1.given.1)
+
+pub returns-in-Absent : goal.returns-in-Absent
+returns-in-Absent c = ap of_link (sym c.enum_told-in-Absent-1.given.1)

@@ -1,0 +1,11 @@
+-- Each arm is the definition's.
+use mathlib.Core.Path.{sym, ap}
+use borrow.Author.Rules.{rules}
+use Rattle.frequency_buckets_walker.specs.Stands.{of_step}
+use Rattle.frequency_buckets_walker.proofs.plain.of_step.Goals as goal
+
+pub returns-in-Here : goal.returns-in-Here
+returns-in-Here c = ap of_step (sym c.step-1.given.1)
+
+pub returns-in-Refused : goal.returns-in-Refused
+returns-in-Refused c = ap of_step (sym c.step-in-Refused-1.given.1)

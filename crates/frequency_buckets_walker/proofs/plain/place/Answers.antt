@@ -1,0 +1,11 @@
+-- Each arm is the definition's.
+use mathlib.Core.Path.{sym, ap}
+use borrow.Author.Rules.{rules}
+use Rattle.frequency_buckets_walker.specs.Stands.{place_of}
+use Rattle.frequency_buckets_walker.proofs.plain.place.Goals as goal
+
+pub returns-in-NoMore : goal.returns-in-NoMore
+returns-in-NoMore c = ap place_of (sym c.enum_told-1.given.1)
+
+pub returns-in-Refused : goal.returns-in-Refused
+returns-in-Refused c = ap place_of (sym c.enum_told-in-Refused-1.given.1)

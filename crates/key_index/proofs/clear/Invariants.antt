@@ -1,0 +1,18 @@
+-- Each word that was passed is as a cleared index has it.
+use borrow.Author.Rules.{rules}
+use Prim.Native.Nat.{ℕ, ◌/◌, ◌≤◌, ◌<◌, ◌-◌}
+use native.Mathlib.Omega.{arith}
+use mathlib.Core.Path.{◌≡◌, refl, sym}
+use lib.ListN.{length, get_or, length-set}
+use borrow.Author.Count.{below_none}
+use Rattle.lists.proofs.Stores.{stored_more}
+use Rattle.key_index.specs.Cleared.{cleared_cell}
+use Rattle.key_index.proofs.Cleared.{cleared}
+use Rattle.key_index.proofs.clear.Given as goal
+
+abbrev pub invariant-loop-i : goal.invariant-loop-i
+invariant-loop-i l =
+    (l.i ≤ length l.index) × (length l.index ≡ length l.initial.index) × (l.half ≡ length l.initial.index / 2) × ((k : ℕ) → k < l.i → get_or l.index k 0 ≡ cleared_cell l.half k)
+
+abbrev pub decreases-loop-i : goal.decreases-loop-i
+decreases-loop-i l = length l.index - l.i

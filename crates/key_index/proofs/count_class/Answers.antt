@@ -1,0 +1,58 @@
+-- The law of a walk of one class, with the slots met so far, how many they are, and the last of them.
+use borrow.Author.Rules.{rules}
+use Prim.Native.Nat.{ℕ, ◌≤◌, ◌-◌}
+use native.Mathlib.Omega.{arith}
+use mathlib.Core.Path.{◌≡◌, refl, sym, ◌∙◌}
+use mathlib.Core.Logic.{⊎_elim}
+use mathlib.Core.List.{List, [], ◌∷◌, ◌++◌}
+use lib.ListN.{length, length-append}
+use borrow.Author.Tests.{ltb-false, ltb-true, not-true, not-false}
+use Rattle.numbers.specs.Marks.{NONE}
+use Rattle.lists.specs.Lists.{final}
+use Rattle.lists.proofs.Tests.{neither}
+use Rattle.lists.proofs.Members.{final_append}
+use Rattle.key_index.proofs.Check.{Meeting, meet_none, meet_more, meet_follows, meet_listed, meet_fault}
+use Rattle.key_index.proofs.count_class.Goals as goal
+
+pub loop-at-init : goal.loop-at-init
+loop-at-init c = (refl, omega arith, ([], refl, refl, meet_none _ _ _))
+
+pub returns-then-not-follows : goal.returns-then-not-follows
+returns-then-not-follows c =
+    let inv = c.loop-at.invariant in
+    let us = inv.2.0 in
+    let pre = c.requires in
+    λ ss k.
+    neither _ (c.follows.ensures.1 (rw (sym inv.2.2) (meet_follows _ _ _ us _ pre.0 inv.2.3 c.loop-at-test.true ss k))) (not-true _ c.if-not-follows.true-raw)
+
+pub loop-at-smaller : goal.loop-at-smaller
+loop-at-smaller c = omega (arith, ltb-true)
+
+pub loop-at-preserved : goal.loop-at-preserved
+loop-at-preserved c =
+    let inv = c.loop-at.invariant in
+    let at = c.loop-at.at in
+    let us = inv.2.0 in
+    let pre = c.requires in (
+      refl,
+      omega (arith, ltb-true),
+      (
+        us ++ at ∷ [],
+        length-append us (at ∷ []) ∙ omega (arith, inv.2.1),
+        final_append NONE us (at ∷ []),
+        meet_more _ _ _ us at pre.0 inv.2.3 c.loop-at-test.true (rw inv.2.2 (c.follows.ensures.0 (not-false _ c.if-not-follows.false-raw))),
+      ),
+    )
+
+pub returns-then-at-eq-NONE : goal.returns-then-at-eq-NONE
+returns-then-at-eq-NONE c =
+    let inv = c.loop-at.invariant in
+    let pre = c.requires in
+    (inv.2.0, meet_listed _ _ _ inv.2.0 _ pre.0 inv.2.3 c.if-at-eq-NONE.true, inv.2.1)
+
+pub returns : goal.returns
+returns c =
+    let inv = c.loop-at.invariant in
+    let pre = c.requires in
+    meet_fault _ _ _ inv.2.0 _ pre.0 inv.2.3
+    (λ b. ⊎_elim (λ w. omega (arith, inv.2.1, ltb-false)) (λ w. omega (arith, inv.2.1)) c.loop-at-test.branch) c.if-at-eq-NONE.false

@@ -1,0 +1,23 @@
+-- The law of a walk of one class, with the slots met so far, how many they are, and the last of them.
+use borrow.Author.Rules.{rules}
+use Prim.Native.Nat.{ℕ, ◌≤◌, ◌-◌}
+use native.Mathlib.Omega.{arith}
+use mathlib.Core.Path.{◌≡◌, refl, sym, ◌∙◌}
+use mathlib.Core.Logic.{⊎_elim}
+use mathlib.Core.List.{List, [], ◌∷◌, ◌++◌}
+use lib.ListN.{length, length-append}
+use borrow.Author.Tests.{ltb-false, ltb-true, not-true, not-false}
+use Rattle.numbers.specs.Marks.{NONE}
+use Rattle.lists.specs.Lists.{final}
+use Rattle.lists.proofs.Tests.{neither}
+use Rattle.lists.proofs.Members.{final_append}
+use Rattle.key_index.proofs.Check.{Meeting, meet_none, meet_more, meet_follows, meet_listed, meet_fault}
+use Rattle.key_index.proofs.count_class.Given as goal
+
+abbrev pub invariant-loop-at : goal.invariant-loop-at
+invariant-loop-at l =
+    (l.capacity ≡ length l.keys) × (l.steps ≤ l.capacity)
+    × ((us : List ℕ) × (length us ≡ l.steps) × (final NONE us ≡ l.last) × Meeting l.index l.keys l.class us l.at)
+
+abbrev pub decreases-loop-at : goal.decreases-loop-at
+decreases-loop-at l = l.capacity - l.steps

@@ -1,0 +1,16 @@
+-- The slots passed have smaller keys; the keys ascend, so that what is ahead shrinks.
+use borrow.Author.Rules.{rules}
+use native.Mathlib.Omega.{arith}
+use Prim.Native.Nat.{ℕ}
+use mathlib.Core.Path.{◌≡◌, refl, sym, subst}
+use lib.ListN.{length, get_or}
+use borrow.Author.Tests.{ltb-false, ltb-true}
+use Rattle.key_index.specs.Class.{class_of}
+use Rattle.key_index.proofs.Placing.{Placing, ahead, place_start, place_below, place_more, place_less, place_end}
+use Rattle.key_index.proofs.sound.place.Given as goal
+
+abbrev pub invariant-loop-s : goal.invariant-loop-s
+invariant-loop-s l = (l.capacity ≡ length l.keys) × (l.s ≡ get_or l.index l.at 0) × Placing l.index l.keys l.key.0 l.at
+
+abbrev pub decreases-loop-s : goal.decreases-loop-s
+decreases-loop-s l = ahead l.keys l.key.0 l.s

@@ -1,0 +1,18 @@
+-- The slots passed are counted.
+use mathlib.Core.Path.{◌≡◌, refl, sym, ap, ◌∙◌}
+use Prim.Native.Nat.{ℕ, ◌+◌, ◌≤◌, ◌-◌}
+use native.Mathlib.Omega.{arith}
+use borrow.Author.Rules.{rules}
+use mathlib.Core.Logic.{⊎_elim}
+use lib.ListN.{length}
+use Rattle.lists.specs.Marks.{count}
+use Rattle.lists.proofs.Pigeonhole.{count_le}
+use Rattle.levels.proofs.Checks as laws
+use Rattle.levels.specs.Check.{taken}
+use Rattle.levels.proofs.count_bound.Given as goal
+
+abbrev pub invariant-loop-s : goal.invariant-loop-s
+invariant-loop-s l = (l.s ≤ length l.nexts) × (l.bound ≡ count (taken l.nexts) l.s)
+
+abbrev pub decreases-loop-s : goal.decreases-loop-s
+decreases-loop-s l = length l.nexts - l.s

@@ -1,0 +1,17 @@
+-- All slots passed are clean.
+use native.Mathlib.Omega.{arith}
+use borrow.Author.Rules.{rules}
+use borrow.Author.Tests.{not-true, not-false}
+use Prim.Native.Nat.{◌≤◌, ◌-◌}
+use lib.ListN.{length}
+use borrow.Author.Count.{below_none, below_more}
+use mathlib.Core.Path.{refl}
+use Rattle.lists.proofs.Tests.{says_no, said_no}
+use Rattle.levels.specs.Check.{Clean}
+use Rattle.levels.proofs.is_clean.Given as goal
+
+abbrev pub invariant-loop-s : goal.invariant-loop-s
+invariant-loop-s l = (l.s ≤ length l.freqs) × Clean l.freqs l.prevs l.nexts l.s
+
+abbrev pub decreases-loop-s : goal.decreases-loop-s
+decreases-loop-s l = length l.freqs - l.s

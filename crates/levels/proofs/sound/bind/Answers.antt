@@ -1,0 +1,10 @@
+-- No level is below the first frequency, so the slot enters above no record.
+use borrow.Author.Rules.{rules}
+use Rattle.levels.proofs.Calls as laws
+use Rattle.levels.proofs.sound.bind.Goals as goal
+
+pub enter-requires : goal.enter-requires
+enter-requires c = laws.bind_ready _ _ _ c.requires
+
+pub returns : goal.returns
+returns c = laws.binds _ _ _ c.requires _ _ c.enter.ensures

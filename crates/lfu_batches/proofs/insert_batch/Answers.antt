@@ -1,0 +1,45 @@
+-- Checked, the two slices too, then done on sound tables; or refused by the check, with nothing changed.
+use mathlib.Core.Path.{refl}
+use borrow.Author.Rules.{rules}
+use Rattle.lfu_batches.proofs.Uneven as uneven
+use Rattle.lfu_batches.proofs.insert_batch.Goals as goal
+
+pub insert_batch-bound-requires : goal.insert_batch-bound-requires
+insert_batch-bound-requires c = uneven.checked _ _ _ _ _ _ c.refusal-why.ensures c.is_done.ensures c.if-is_done.true
+
+pub shape_of-keys-then-is_done : goal.shape_of-keys-then-is_done
+shape_of-keys-then-is_done c = c.insert_batch-bound.auto.0
+
+pub shape_of-freqs-then-is_done : goal.shape_of-freqs-then-is_done
+shape_of-freqs-then-is_done c = c.insert_batch-bound.auto.1.0
+
+pub shape_of-epochs-then-is_done : goal.shape_of-epochs-then-is_done
+shape_of-epochs-then-is_done c = c.insert_batch-bound.auto.1.1.0
+
+pub shape_of-prevs-then-is_done : goal.shape_of-prevs-then-is_done
+shape_of-prevs-then-is_done c = c.insert_batch-bound.auto.1.1.1.0
+
+pub shape_of-nexts-then-is_done : goal.shape_of-nexts-then-is_done
+shape_of-nexts-then-is_done c = c.insert_batch-bound.auto.1.1.1.1.0
+
+pub shape_of-arena-then-is_done : goal.shape_of-arena-then-is_done
+shape_of-arena-then-is_done c = c.insert_batch-bound.auto.1.1.1.1.1.0
+
+pub shape_of-index-then-is_done : goal.shape_of-index-then-is_done
+shape_of-index-then-is_done c = c.insert_batch-bound.auto.1.1.1.1.1.1.0
+
+pub shape_of-buckets-then-is_done : goal.shape_of-buckets-then-is_done
+shape_of-buckets-then-is_done c = c.insert_batch-bound.auto.1.1.1.1.1.1.1.0
+
+pub shape_of-spares-then-is_done : goal.shape_of-spares-then-is_done
+shape_of-spares-then-is_done c = c.insert_batch-bound.auto.1.1.1.1.1.1.1.1.0
+
+pub shape_of-values-then-is_done : goal.shape_of-values-then-is_done
+shape_of-values-then-is_done c = c.insert_batch-bound.auto.1.1.1.1.1.1.1.1.1.0
+
+pub returns-then-is_done : goal.returns-then-is_done
+returns-then-is_done c =
+    uneven.inserts_all _ _ _ _ _ _ c.refusal-why.ensures c.is_done.ensures _ _ _ c.if-is_done.true c.insert_batch-bound.ensures
+
+pub returns : goal.returns
+returns c = uneven.inserts_refused _ _ _ _ _ _ c.refusal-why.ensures c.is_done.ensures _ c.if-is_done.false refl

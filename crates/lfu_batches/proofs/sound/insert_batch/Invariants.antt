@@ -1,0 +1,21 @@
+-- Each pair of items is one insert more, and the count takes in its answer.
+use mathlib.Core.Path.{sym, ap, ◌∙◌}
+use mathlib.Core.List.{List}
+use Prim.Native.Nat.{ℕ, ◌-◌}
+use native.Mathlib.Omega.{arith}
+use lib.ListN.{length, drop}
+use borrow.Author.Rules.{rules}
+use Rattle.buckets_tables.specs.Tables.{tables}
+use Rattle.answers.specs.Replies.{insertion_reply}
+use Rattle.cache_tables.specs.Tables.{with_values}
+use Rattle.lfu_batches.specs.Batches.{pairs}
+use Rattle.lfu_batches.proofs.Batching as laws
+use Rattle.lfu_batches.proofs.Batching.{Batching, inserts}
+use Rattle.lfu_batches.proofs.sound.insert_batch.Given as goal
+
+abbrev pub invariant-loop-i : goal.invariant-loop-i
+invariant-loop-i l =
+    Batching inserts (pairs l.items l.given) (pairs (drop l.i l.items) (drop l.i l.given)) (with_values (tables l.initial.keys l.initial.freqs l.initial.epochs l.initial.prevs l.initial.nexts l.initial.arena l.initial.index l.initial.buckets l.initial.spares) l.initial.values) l.initial.state l.i l.done (with_values (tables l.keys l.freqs l.epochs l.prevs l.nexts l.arena l.index l.buckets l.spares) l.values) l.state
+
+abbrev pub decreases-loop-i : goal.decreases-loop-i
+decreases-loop-i l = length l.items - l.i

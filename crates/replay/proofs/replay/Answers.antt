@@ -1,0 +1,8 @@
+-- A header that begins has a capacity that the tables have places for.
+use mathlib.Core.Path.{sym, ◌∙◌}
+use borrow.Author.Rules.{rules}
+use Rattle.trace.proofs.Beginning.{begins_fits}
+use Rattle.replay.proofs.replay.Goals as goal
+
+pub start-requires : goal.start-requires
+start-requires c = (begins_fits _ _ (sym c.header-begun.ensures ∙ c.begun-in-Begins-1.given.1)).1

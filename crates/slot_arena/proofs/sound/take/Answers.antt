@@ -1,0 +1,11 @@
+-- The law of taking; the two ways out differ in the last slot of the order that is left.
+use borrow.Author.Rules.{rules}
+use mathlib.Core.Path.{refl, sym}
+use Rattle.slot_arena.proofs.Steps.{taken, take_alone, take_last}
+use Rattle.slot_arena.proofs.sound.take.Goals as goal
+
+pub returns-then-next-eq-NONE : goal.returns-then-next-eq-NONE
+returns-then-next-eq-NONE c = taken _ _ _ refl (sym c.if-next-eq-NONE.true) (λ s rest h. take_alone _ _ s rest h c.if-next-eq-NONE.true)
+
+pub returns : goal.returns
+returns c = taken _ _ _ refl refl (λ s rest h. take_last _ _ s rest h c.if-next-eq-NONE.false)

@@ -1,0 +1,48 @@
+-- The new tables hold the empty cache, and the part is all of the records.
+use native.Mathlib.Omega.{arith}
+use mathlib.Core.Path.{◌∙◌}
+use Rattle.trace_input.proofs.Sizes.{sizes_fit}
+use Rattle.trace_input.proofs.Wholes.{part_all}
+use Rattle.trace_input.proofs.sound.inputs.afresh.Goals as goal
+
+pub make-state-requires : goal.make-state-requires
+make-state-requires c = sizes_fit _ _ _ _ _ _ _ _ _ _ _ c.requires.0
+
+pub part-printed-requires : goal.part-printed-requires
+part-printed-requires c = let w = c.requires in ((_, c.make-state.ensures _ w.0.base.buckets_size), omega arith, w.1)
+
+pub shape_of-keys : goal.shape_of-keys
+shape_of-keys c = c.part-printed.auto.0 ∙ c.make-state.auto.0
+
+pub shape_of-freqs : goal.shape_of-freqs
+shape_of-freqs c = c.part-printed.auto.1.0 ∙ c.make-state.auto.1.0
+
+pub shape_of-epochs : goal.shape_of-epochs
+shape_of-epochs c = c.part-printed.auto.1.1.0 ∙ c.make-state.auto.1.1.0
+
+pub shape_of-prevs : goal.shape_of-prevs
+shape_of-prevs c = c.part-printed.auto.1.1.1.0 ∙ c.make-state.auto.1.1.1.0
+
+pub shape_of-nexts : goal.shape_of-nexts
+shape_of-nexts c = c.part-printed.auto.1.1.1.1.0 ∙ c.make-state.auto.1.1.1.1.0
+
+pub shape_of-arena : goal.shape_of-arena
+shape_of-arena c = c.part-printed.auto.1.1.1.1.1.0 ∙ c.make-state.auto.1.1.1.1.1.0
+
+pub shape_of-index : goal.shape_of-index
+shape_of-index c = c.part-printed.auto.1.1.1.1.1.1.0 ∙ c.make-state.auto.1.1.1.1.1.1.0
+
+pub shape_of-buckets : goal.shape_of-buckets
+shape_of-buckets c = c.part-printed.auto.1.1.1.1.1.1.1.0
+
+pub shape_of-spares : goal.shape_of-spares
+shape_of-spares c = c.part-printed.auto.1.1.1.1.1.1.1.1.0 ∙ c.make-state.auto.1.1.1.1.1.1.1.0
+
+pub shape_of-values : goal.shape_of-values
+shape_of-values c = c.part-printed.auto.1.1.1.1.1.1.1.1.1.0 ∙ c.make-state.auto.1.1.1.1.1.1.1.1.0
+
+pub shape_of-out : goal.shape_of-out
+shape_of-out c = c.part-printed.auto.1.1.1.1.1.1.1.1.1.1.1.1.1.0
+
+pub returns : goal.returns
+returns c = part_all _ _ _ _ _ _ c.part-printed.ensures _ (c.make-state.ensures _ c.requires.0.base.buckets_size)

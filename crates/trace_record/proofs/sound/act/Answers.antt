@@ -1,0 +1,208 @@
+-- The operation byte names the call of its arm; where it names none, the cache stays.
+use mathlib.Core.Path.{refl}
+use borrow.Author.Rules.{rules}
+use Rattle.cache_tables.proofs.Asking as asking
+use Rattle.trace_record.proofs.Telling.{acted, acted_none, bad_tells}
+use Rattle.trace_record.proofs.sound.act.Goals as goal
+
+pub insert-requires : goal.insert-requires
+insert-requires c = c.requires
+
+pub get-requires : goal.get-requires
+get-requires c = (c.args.a.now, c.requires)
+
+pub remove-requires : goal.remove-requires
+remove-requires c = c.requires
+
+pub reset-requires : goal.reset-requires
+reset-requires c = (c.args.a.now, asking.base_sound _ _ c.requires)
+
+pub clear-requires : goal.clear-requires
+clear-requires c = (c.args.b.now, c.requires)
+
+pub evict-requires : goal.evict-requires
+evict-requires c = c.requires
+
+pub shape_of-k-in-1 : goal.shape_of-k-in-1
+shape_of-k-in-1 c = c.insert.auto.0
+
+pub shape_of-f-in-1 : goal.shape_of-f-in-1
+shape_of-f-in-1 c = c.insert.auto.1.0
+
+pub shape_of-e-in-1 : goal.shape_of-e-in-1
+shape_of-e-in-1 c = c.insert.auto.1.1.0
+
+pub shape_of-p-in-1 : goal.shape_of-p-in-1
+shape_of-p-in-1 c = c.insert.auto.1.1.1.0
+
+pub shape_of-n-in-1 : goal.shape_of-n-in-1
+shape_of-n-in-1 c = c.insert.auto.1.1.1.1.0
+
+pub shape_of-a-in-1 : goal.shape_of-a-in-1
+shape_of-a-in-1 c = c.insert.auto.1.1.1.1.1.0
+
+pub shape_of-i-in-1 : goal.shape_of-i-in-1
+shape_of-i-in-1 c = c.insert.auto.1.1.1.1.1.1.0
+
+pub shape_of-b-in-1 : goal.shape_of-b-in-1
+shape_of-b-in-1 c = c.insert.auto.1.1.1.1.1.1.1.0
+
+pub shape_of-sp-in-1 : goal.shape_of-sp-in-1
+shape_of-sp-in-1 c = c.insert.auto.1.1.1.1.1.1.1.1.0
+
+pub shape_of-vs-in-1 : goal.shape_of-vs-in-1
+shape_of-vs-in-1 c = c.insert.auto.1.1.1.1.1.1.1.1.1.0
+
+pub returns-in-1 : goal.returns-in-1
+returns-in-1 c = acted _ _ _ _ _ _ _ _ 1 c.in-1.keys1 c.insert.ensures
+
+pub shape_of-f-in-2 : goal.shape_of-f-in-2
+shape_of-f-in-2 c = c.get.auto.1.0
+
+pub shape_of-e-in-2 : goal.shape_of-e-in-2
+shape_of-e-in-2 c = c.get.auto.1.1.0
+
+pub shape_of-p-in-2 : goal.shape_of-p-in-2
+shape_of-p-in-2 c = c.get.auto.1.1.1.0
+
+pub shape_of-n-in-2 : goal.shape_of-n-in-2
+shape_of-n-in-2 c = c.get.auto.1.1.1.1.0
+
+pub shape_of-b-in-2 : goal.shape_of-b-in-2
+shape_of-b-in-2 c = c.get.auto.1.1.1.1.1.1.0
+
+pub shape_of-sp-in-2 : goal.shape_of-sp-in-2
+shape_of-sp-in-2 c = c.get.auto.1.1.1.1.1.1.1.0
+
+pub returns-in-2 : goal.returns-in-2
+returns-in-2 c = acted _ _ _ _ _ _ _ _ 2 c.in-2.keys2 (c.get.ensures _)
+
+pub returns-in-3 : goal.returns-in-3
+returns-in-3 c = acted _ _ _ _ _ _ _ _ 3 c.in-3.keys3 (c.peek.ensures _ _ _ _ _ _ _)
+
+pub shape_of-k-in-4 : goal.shape_of-k-in-4
+shape_of-k-in-4 c = c.remove.auto.0
+
+pub shape_of-f-in-4 : goal.shape_of-f-in-4
+shape_of-f-in-4 c = c.remove.auto.1.0
+
+pub shape_of-e-in-4 : goal.shape_of-e-in-4
+shape_of-e-in-4 c = c.remove.auto.1.1.0
+
+pub shape_of-p-in-4 : goal.shape_of-p-in-4
+shape_of-p-in-4 c = c.remove.auto.1.1.1.0
+
+pub shape_of-n-in-4 : goal.shape_of-n-in-4
+shape_of-n-in-4 c = c.remove.auto.1.1.1.1.0
+
+pub shape_of-a-in-4 : goal.shape_of-a-in-4
+shape_of-a-in-4 c = c.remove.auto.1.1.1.1.1.0
+
+pub shape_of-i-in-4 : goal.shape_of-i-in-4
+shape_of-i-in-4 c = c.remove.auto.1.1.1.1.1.1.0
+
+pub shape_of-b-in-4 : goal.shape_of-b-in-4
+shape_of-b-in-4 c = c.remove.auto.1.1.1.1.1.1.1.0
+
+pub shape_of-sp-in-4 : goal.shape_of-sp-in-4
+shape_of-sp-in-4 c = c.remove.auto.1.1.1.1.1.1.1.1.0
+
+pub shape_of-vs-in-4 : goal.shape_of-vs-in-4
+shape_of-vs-in-4 c = c.remove.auto.1.1.1.1.1.1.1.1.1.0
+
+pub returns-in-4 : goal.returns-in-4
+returns-in-4 c = acted _ _ _ _ _ _ _ _ 4 c.in-4.keys4 c.remove.ensures
+
+pub returns-in-5 : goal.returns-in-5
+returns-in-5 c = acted _ _ _ _ _ _ _ _ 5 c.in-5.keys5 (c.least.ensures _ _ _ _ _ _ _)
+
+pub shape_of-f-in-6 : goal.shape_of-f-in-6
+shape_of-f-in-6 c = c.reset.auto.1.0
+
+pub shape_of-e-in-6 : goal.shape_of-e-in-6
+shape_of-e-in-6 c = c.reset.auto.1.1.0
+
+pub shape_of-p-in-6 : goal.shape_of-p-in-6
+shape_of-p-in-6 c = c.reset.auto.1.1.1.0
+
+pub shape_of-n-in-6 : goal.shape_of-n-in-6
+shape_of-n-in-6 c = c.reset.auto.1.1.1.1.0
+
+pub shape_of-b-in-6 : goal.shape_of-b-in-6
+shape_of-b-in-6 c = c.reset.auto.1.1.1.1.1.1.0
+
+pub shape_of-sp-in-6 : goal.shape_of-sp-in-6
+shape_of-sp-in-6 c = c.reset.auto.1.1.1.1.1.1.1.0
+
+pub returns-in-6 : goal.returns-in-6
+returns-in-6 c = acted _ _ _ _ _ _ _ _ 6 c.in-6.keys6 (c.reset.ensures _ _)
+
+pub shape_of-k-in-7 : goal.shape_of-k-in-7
+shape_of-k-in-7 c = c.clear.auto.0
+
+pub shape_of-f-in-7 : goal.shape_of-f-in-7
+shape_of-f-in-7 c = c.clear.auto.1.0
+
+pub shape_of-e-in-7 : goal.shape_of-e-in-7
+shape_of-e-in-7 c = c.clear.auto.1.1.0
+
+pub shape_of-p-in-7 : goal.shape_of-p-in-7
+shape_of-p-in-7 c = c.clear.auto.1.1.1.0
+
+pub shape_of-n-in-7 : goal.shape_of-n-in-7
+shape_of-n-in-7 c = c.clear.auto.1.1.1.1.0
+
+pub shape_of-a-in-7 : goal.shape_of-a-in-7
+shape_of-a-in-7 c = c.clear.auto.1.1.1.1.1.0
+
+pub shape_of-i-in-7 : goal.shape_of-i-in-7
+shape_of-i-in-7 c = c.clear.auto.1.1.1.1.1.1.0
+
+pub shape_of-sp-in-7 : goal.shape_of-sp-in-7
+shape_of-sp-in-7 c = c.clear.auto.1.1.1.1.1.1.1.0
+
+pub shape_of-vs-in-7 : goal.shape_of-vs-in-7
+shape_of-vs-in-7 c = c.clear.auto.1.1.1.1.1.1.1.1.0
+
+pub returns-in-7 : goal.returns-in-7
+returns-in-7 c = acted _ _ _ _ _ _ _ _ 7 c.in-7.keys7 (c.clear.ensures _)
+
+pub shape_of-k-in-8 : goal.shape_of-k-in-8
+shape_of-k-in-8 c = c.evict.auto.0
+
+pub shape_of-f-in-8 : goal.shape_of-f-in-8
+shape_of-f-in-8 c = c.evict.auto.1.0
+
+pub shape_of-e-in-8 : goal.shape_of-e-in-8
+shape_of-e-in-8 c = c.evict.auto.1.1.0
+
+pub shape_of-p-in-8 : goal.shape_of-p-in-8
+shape_of-p-in-8 c = c.evict.auto.1.1.1.0
+
+pub shape_of-n-in-8 : goal.shape_of-n-in-8
+shape_of-n-in-8 c = c.evict.auto.1.1.1.1.0
+
+pub shape_of-a-in-8 : goal.shape_of-a-in-8
+shape_of-a-in-8 c = c.evict.auto.1.1.1.1.1.0
+
+pub shape_of-i-in-8 : goal.shape_of-i-in-8
+shape_of-i-in-8 c = c.evict.auto.1.1.1.1.1.1.0
+
+pub shape_of-b-in-8 : goal.shape_of-b-in-8
+shape_of-b-in-8 c = c.evict.auto.1.1.1.1.1.1.1.0
+
+pub shape_of-sp-in-8 : goal.shape_of-sp-in-8
+shape_of-sp-in-8 c = c.evict.auto.1.1.1.1.1.1.1.1.0
+
+pub shape_of-vs-in-8 : goal.shape_of-vs-in-8
+shape_of-vs-in-8 c = c.evict.auto.1.1.1.1.1.1.1.1.1.0
+
+pub returns-in-8 : goal.returns-in-8
+returns-in-8 c = acted _ _ _ _ _ _ _ _ 8 c.in-8.keys8 c.evict.ensures
+
+pub returns-in-0 : goal.returns-in-0
+returns-in-0 c = acted _ _ _ _ _ _ _ _ 0 c.in-0.keys9 (bad_tells _ _ _ _ c.bad.ensures.0 c.bad.ensures.1)
+
+pub returns-in-9-to-255 : goal.returns-in-9-to-255
+returns-in-9-to-255 c =
+    acted_none _ _ _ _ _ _ _ _ c.in-9-to-255.rest.0.0.0.0.0.0.0.0.1 c.in-9-to-255.rest.0.0.0.0.0.0.0.1 c.in-9-to-255.rest.0.0.0.0.0.0.1 c.in-9-to-255.rest.0.0.0.0.0.1 c.in-9-to-255.rest.0.0.0.0.1 c.in-9-to-255.rest.0.0.0.1 c.in-9-to-255.rest.0.0.1 c.in-9-to-255.rest.0.1 (bad_tells _ _ _ _ c.bad-in-9-to-255.ensures.0 c.bad-in-9-to-255.ensures.1)

@@ -1,0 +1,8 @@
+-- The call's promise, and the line of its answer.
+use borrow.Author.Rules.{rules}
+use Rattle.trace_record.proofs.Telling.{least_tells}
+use Rattle.trace_record.proofs.sound.cases.least.Goals as goal
+
+pub returns : goal.returns
+returns c =
+    λ f e p n a i sp. least_tells _ _ _ c.peek_lfu-answer.result c.of_least.ensures (c.peek_lfu-answer.ensures f e p n a i sp)

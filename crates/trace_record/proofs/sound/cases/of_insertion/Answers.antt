@@ -1,0 +1,17 @@
+-- By the answer's case.
+use mathlib.Core.Path.{sym, ap}
+use borrow.Author.Rules.{rules}
+use Rattle.trace_record.specs.Answers.{insertion_line}
+use Rattle.trace_record.proofs.sound.cases.of_insertion.Goals as goal
+
+pub returns-in-New : goal.returns-in-New
+returns-in-New c = sym (ap insertion_line c.enum_told-1.given.1)
+
+pub returns-in-NewOut : goal.returns-in-NewOut
+returns-in-NewOut c = sym (ap insertion_line c.answer-1.given.1)
+
+pub returns-in-Old : goal.returns-in-Old
+returns-in-Old c = sym (ap insertion_line c.answer-in-Old-1.given.1)
+
+pub returns-in-Refused : goal.returns-in-Refused
+returns-in-Refused c = sym (ap insertion_line c.enum_told-in-Refused-1.given.1)

@@ -1,0 +1,8 @@
+-- The call's promise, and the line of its answer.
+use borrow.Author.Rules.{rules}
+use Rattle.trace_record.proofs.Telling.{peek_tells}
+use Rattle.trace_record.proofs.sound.cases.peek.Goals as goal
+
+pub returns : goal.returns
+returns c =
+    λ f e p n a b sp. peek_tells _ _ _ _ c.peek-answer.result c.of_value.ensures (c.peek-answer.ensures f e p n a b sp _)
