@@ -1,11 +1,12 @@
 -- What the stores of each call do to the list that two lent tables hold: the laws of rings, at the tables' links.
-use Rattle.std.proofs.Common.{◌≡◌, ℕ, ◌+◌, ◌%◌, ◌^◌, ◌<◌, ◌≤◌, ◌≢◌, ◌⊎◌, List, ◌∷◌, ◌++◌, length, get_or, set, sym, refl, ◌∙◌, inl, inr, ⊎_elim, mod-eq_of_lt, arith, length-append, length-set, get_or-set_other}
+use Rattle.std.proofs.Common.{◌≡◌, ℕ, ◌+◌, ◌%◌, ◌^◌, ◌<◌, ◌≤◌, ◌≢◌, ◌⊎◌, List, ◌∷◌, ◌++◌, length, get_or, set, sym, refl, ◌∙◌, inl, inr, ⊎_elim, subst, mod-eq_of_lt, arith, length-append, length-set, get_or-set_other}
 use Rattle.numbers.specs.Marks.{NONE}
 use Rattle.lists.specs.Lists.{All, In, Without, Distinct, final}
 use Rattle.lists.proofs.Tests.{by_lt}
 use Rattle.lists.proofs.Pigeonhole.{distinct_few}
 use Rattle.lists.proofs.Members.{all_map, all_both, all_mid, all_in, all_of}
 use Rattle.links.specs.Chain.{cells}
+use Rattle.links.specs.Ring.{Links, upd, look}
 use Rattle.links.specs.Linked.{next, prev, Ring, Fits, Put, Kept, Pushed, Unlinked, Moved, Linked, linked}
 use Rattle.links.proofs.Functions.{look_end, look_at, look_swap, look_upd, cells_upd}
 use Rattle.links.proofs.Rings.{links_same, links_one, last_is, once, distinct, around, first, remove, push}
@@ -137,21 +138,29 @@ module _ (t : Linked) (s : ℕ) (pre : Fits t.prevs t.nexts s) where
     size : length prevs' ≡ length t.prevs
     size = put_size t.prevs prevs' s NONE p.size
 
+    -- the tables' own stores are the updates of the ring's law, whatever the list
+    linked_so : (xs : List ℕ) → Ring t xs → (ys : List ℕ) →
+        Links (upd (upd (next t) s (next t NONE)) NONE s) (upd (upd (prev t) s NONE) (next t NONE) s) NONE ys NONE →
+        Links (look (cells (set t.nexts s t.ends.head)) s) (look (cells prevs') tail) NONE ys NONE
+    linked_so xs h ys d =
+        rw (
+          look_swap (cells (set t.nexts s t.ends.head)) t.ends.head s,
+          cells_upd t.nexts s t.ends.head (rw pre.even pre.slot),
+          look_upd (cells t.nexts) t.ends.head s t.ends.head s_none,
+          p.link (simp length-set (rw (look_end (cells t.nexts) t.ends.head) at (first (next t) (prev t) (Place t pre.room) NONE xs NONE (places t pre.room xs h) (inr refl) h.links))),
+          cells_upd t.prevs s NONE pre.slot,
+          look_upd (cells t.prevs) t.ends.tail s NONE s_none,
+        )
+        (rw (look_end (cells t.nexts) t.ends.head) at d)
+
     pub pushed : Pushed t s pushed_to
     pushed = record {
       sized = record { prevs_size = size; nexts_size = length-set t.nexts s t.ends.head };
       list = λ xs h f. record {
-        slots = rw size (pre.slot, h.slots);
+        slots = subst (λ (n : ℕ). All (λ i. i < n) (s ∷ xs)) (sym size) (pre.slot, h.slots);
         links =
-            rw (
-              look_swap (cells (set t.nexts s t.ends.head)) t.ends.head s,
-              cells_upd t.nexts s t.ends.head (rw pre.even pre.slot),
-              look_upd (cells t.nexts) t.ends.head s t.ends.head s_none,
-              p.link (simp length-set (rw (look_end (cells t.nexts) t.ends.head) at (first (next t) (prev t) (Place t pre.room) NONE xs NONE (places t pre.room xs h) (inr refl) h.links))),
-              cells_upd t.prevs s NONE pre.slot,
-              look_upd (cells t.prevs) t.ends.tail s NONE s_none,
-            )
-            (rw (look_end (cells t.nexts) t.ends.head) at (push (next t) (prev t) s NONE none_s xs NONE none_s f (ring_clear t pre.room xs h) h.links));
+            linked_so xs h (s ∷ xs)
+            (push (next t) (prev t) s NONE none_s xs NONE none_s f (ring_clear t pre.room xs h) h.links);
         many = let n = h.many in let l = ring_few t pre.room xs h in let r = pre.room in more ∙ mod-eq_of_lt (omega arith) ∙ omega arith;
       };
       rest = λ xs h k l w. (
