@@ -2,10 +2,10 @@
 // that were done.
 ghost use Rattle.ledger.specs.Buckets as ledger;
 ghost use Rattle.promise.specs.Promise.{Does, Sound};
-ghost use Rattle.buckets_tables.specs.Slices.{lent, before, after};
+ghost use Rattle.buckets_tables.specs.Slices.{lent};
 ghost use Rattle.buckets_tables.specs.Lent as kind;
 ghost use Rattle.answers.specs.Replies.{number_reply};
-ghost use Rattle.buckets_calls.specs.Calls.{Touchable};
+ghost use Rattle.buckets_calls.specs.Calls.{with, Touchable};
 ghost use Rattle.buckets_batches.specs.Batches.{TouchesAll};
 
 use crate::{Batched, done_once, leveled_once};
@@ -26,10 +26,10 @@ pub fn insert_batch(
     mut state: State,
     items: &[u64],
 ) -> Batched
-    requires { Sound kind.buckets (lent keys freqs epochs prevs nexts arena index buckets spares) state }
+    requires { Sound kind.buckets (lent keys.old freqs.old epochs.old prevs.old nexts.old arena.old index.old buckets.old spares.old) state }
     ensures { Does kind.buckets (ledger.insert_batch items.now)
-        (before keys freqs epochs prevs nexts arena index buckets spares) state (number_reply result.done)
-        (after keys freqs epochs prevs nexts arena index buckets spares) result.state }
+        (lent keys.old freqs.old epochs.old prevs.old nexts.old arena.old index.old buckets.old spares.old) state (number_reply result.done)
+        (lent keys.new freqs.new epochs.new prevs.new nexts.new arena.new index.new buckets.new spares.new) result.state }
 {
     let mut done: u64 = 0;
     let mut i = 0;
@@ -73,8 +73,10 @@ pub fn touch_batch(
     mut state: State,
     items: &[u64],
 ) -> Batched
-    requires { Touchable keys freqs epochs prevs nexts index buckets spares state }
-    ensures { TouchesAll items.now keys freqs epochs prevs nexts index buckets spares state result }
+    requires { Touchable (with keys.now freqs.old epochs.old prevs.old nexts.old index.now buckets.old spares.old) state }
+    ensures { TouchesAll items.now
+        (with keys.now freqs.old epochs.old prevs.old nexts.old index.now buckets.old spares.old) state
+        (with keys.now freqs.new epochs.new prevs.new nexts.new index.now buckets.new spares.new) result }
 {
     let mut done: u64 = 0;
     let mut at = 0;
@@ -119,10 +121,10 @@ pub fn remove_batch(
     mut state: State,
     items: &[u64],
 ) -> Batched
-    requires { Sound kind.buckets (lent keys freqs epochs prevs nexts arena index buckets spares) state }
+    requires { Sound kind.buckets (lent keys.old freqs.old epochs.old prevs.old nexts.old arena.old index.old buckets.old spares.old) state }
     ensures { Does kind.buckets (ledger.remove_batch items.now)
-        (before keys freqs epochs prevs nexts arena index buckets spares) state (number_reply result.done)
-        (after keys freqs epochs prevs nexts arena index buckets spares) result.state }
+        (lent keys.old freqs.old epochs.old prevs.old nexts.old arena.old index.old buckets.old spares.old) state (number_reply result.done)
+        (lent keys.new freqs.new epochs.new prevs.new nexts.new arena.new index.new buckets.new spares.new) result.state }
 {
     let mut done: u64 = 0;
     let mut i = 0;

@@ -1,10 +1,10 @@
 // The single calls on tables that are known to be sound: they check nothing. Beside the key index's search each takes a few steps.
 ghost use Rattle.ledger.specs.Buckets as ledger;
 ghost use Rattle.promise.specs.Promise.{Does, Sound};
-ghost use Rattle.buckets_tables.specs.Slices.{lent, before, after};
+ghost use Rattle.buckets_tables.specs.Slices.{lent};
 ghost use Rattle.buckets_tables.specs.Lent as kind;
 ghost use Rattle.answers.specs.Replies.{level_reply, least_reply, plain_reply};
-ghost use Rattle.buckets_calls.specs.Calls.{Touchable, Touches};
+ghost use Rattle.buckets_calls.specs.Calls.{with, Touchable, Touches};
 
 use answers::{Least, Level, Leveled, Popped, Stored};
 use buckets_tables::State;
@@ -25,10 +25,10 @@ pub fn insert(
     state: State,
     key: Key,
 ) -> Stored
-    requires { Sound kind.buckets (lent keys freqs epochs prevs nexts arena index buckets spares) state }
+    requires { Sound kind.buckets (lent keys.old freqs.old epochs.old prevs.old nexts.old arena.old index.old buckets.old spares.old) state }
     ensures { Does kind.buckets (ledger.insert key.0)
-        (before keys freqs epochs prevs nexts arena index buckets spares) state (plain_reply result.answer)
-        (after keys freqs epochs prevs nexts arena index buckets spares) result.state }
+        (lent keys.old freqs.old epochs.old prevs.old nexts.old arena.old index.old buckets.old spares.old) state (plain_reply result.answer)
+        (lent keys.new freqs.new epochs.new prevs.new nexts.new arena.new index.new buckets.new spares.new) result.state }
 {
     if let Found::At(_) = key_index::sound::find(&index[..], &keys[..], key) {
         return Stored {
@@ -66,8 +66,10 @@ pub fn touch(
     key: Key,
     cap: Frequency,
 ) -> Leveled
-    requires { Touchable keys freqs epochs prevs nexts index buckets spares state }
-    ensures { Touches cap.0 key.0 keys freqs epochs prevs nexts index buckets spares state result }
+    requires { Touchable (with keys.now freqs.old epochs.old prevs.old nexts.old index.now buckets.old spares.old) state }
+    ensures { Touches cap.0 key.0
+        (with keys.now freqs.old epochs.old prevs.old nexts.old index.now buckets.old spares.old) state
+        (with keys.now freqs.new epochs.new prevs.new nexts.new index.now buckets.new spares.new) result }
 {
     match key_index::sound::find(index, keys, key) {
         Found::At(slot) => {
@@ -110,10 +112,10 @@ pub fn remove(
     state: State,
     key: Key,
 ) -> Leveled
-    requires { Sound kind.buckets (lent keys freqs epochs prevs nexts arena index buckets spares) state }
+    requires { Sound kind.buckets (lent keys.old freqs.old epochs.old prevs.old nexts.old arena.old index.old buckets.old spares.old) state }
     ensures { Does kind.buckets (ledger.remove key.0)
-        (before keys freqs epochs prevs nexts arena index buckets spares) state (level_reply result.answer)
-        (after keys freqs epochs prevs nexts arena index buckets spares) result.state }
+        (lent keys.old freqs.old epochs.old prevs.old nexts.old arena.old index.old buckets.old spares.old) state (level_reply result.answer)
+        (lent keys.new freqs.new epochs.new prevs.new nexts.new arena.new index.new buckets.new spares.new) result.state }
 {
     match key_index::sound::find(&index[..], &keys[..], key) {
         Found::At(slot) => {
@@ -146,10 +148,10 @@ pub fn pop_min(
     spares: &mut [u64],
     state: State,
 ) -> Popped
-    requires { Sound kind.buckets (lent keys freqs epochs prevs nexts arena index buckets spares) state }
+    requires { Sound kind.buckets (lent keys.old freqs.old epochs.old prevs.old nexts.old arena.old index.old buckets.old spares.old) state }
     ensures { Does kind.buckets ledger.pop_min
-        (before keys freqs epochs prevs nexts arena index buckets spares) state (least_reply result.answer)
-        (after keys freqs epochs prevs nexts arena index buckets spares) result.state }
+        (lent keys.old freqs.old epochs.old prevs.old nexts.old arena.old index.old buckets.old spares.old) state (least_reply result.answer)
+        (lent keys.new freqs.new epochs.new prevs.new nexts.new arena.new index.new buckets.new spares.new) result.state }
 {
     let slot = levels::sound::lowest(&buckets[..], state.buckets);
     if slot.0 == NONE {

@@ -6,7 +6,7 @@ ghost use Rattle.std.specs.Prelude.{◌≡◌, true, ◌↔◌, ◌+◌, ◌<◌
 ghost use Rattle.numbers.specs.Marks.{LIMIT};
 ghost use Rattle.promise.specs.Promise.{Checks, Sound};
 ghost use Rattle.promise.specs.Making.{Measures};
-ghost use Rattle.buckets_tables.specs.Slices.{lent, before};
+ghost use Rattle.buckets_tables.specs.Slices.{lent};
 ghost use Rattle.buckets_tables.specs.Lent as kind;
 ghost use Rattle.buckets_check.specs.Check.{SlotTables, PartTables, Beside, Off, Agree, AgreeBelow, SlotAllowed};
 
@@ -133,8 +133,8 @@ fn is_sound(
     spares: &[u64],
     state: State,
 ) -> bool
-    requires { SlotAllowed (lent keys freqs epochs prevs nexts arena index buckets spares) state.capacity }
-    ensures { (result ≡ true) ↔ Sound kind.buckets (before keys freqs epochs prevs nexts arena index buckets spares) state }
+    requires { SlotAllowed (lent keys.now freqs.now epochs.now prevs.now nexts.now arena.now index.now buckets.now spares.now) state.capacity }
+    ensures { (result ≡ true) ↔ Sound kind.buckets (lent keys.now freqs.now epochs.now prevs.now nexts.now arena.now index.now buckets.now spares.now) state }
 {
     if !slot_arena::is_sound(arena, state.free) {
         return false;
@@ -167,7 +167,7 @@ pub fn misfit(
     spares: &[u64],
     capacity: u64,
 ) -> Answer
-    ensures { Measures kind.buckets (before keys freqs epochs prevs nexts arena index buckets spares) capacity result }
+    ensures { Measures kind.buckets (lent keys.now freqs.now epochs.now prevs.now nexts.now arena.now index.now buckets.now spares.now) capacity result }
 {
     if LIMIT < capacity {
         return Answer::Capacity;
@@ -194,7 +194,7 @@ pub fn refusal(
     spares: &[u64],
     state: State,
 ) -> Answer
-    ensures { Checks kind.buckets (before keys freqs epochs prevs nexts arena index buckets spares) state result }
+    ensures { Checks kind.buckets (lent keys.now freqs.now epochs.now prevs.now nexts.now arena.now index.now buckets.now spares.now) state result }
 {
     let size = misfit(
         keys,

@@ -2,7 +2,7 @@
 ghost use Rattle.std.specs.Prelude.{◌≡◌};
 ghost use Rattle.ledger.specs.Regroup as ledger;
 ghost use Rattle.levels.specs.Held.{LevelsSound};
-ghost use Rattle.levels.specs.Slices.{lent, before, after};
+ghost use Rattle.levels.specs.Slices.{lent};
 ghost use Rattle.buckets_regroup.specs.Change.{changed};
 ghost use Rattle.buckets_regroup.specs.Falls.{Reachable, place_above, Falling, Falls};
 ghost use Rattle.buckets_regroup.specs.Regroup.{Regroups};
@@ -43,10 +43,10 @@ fn fall(
     slot: Slot,
     last: Slot,
 ) -> Buckets
-    requires { Falling (changed change) (lent freqs prevs nexts buckets spares) state number slot.0 last.0 }
+    requires { Falling (changed change) (lent freqs.old prevs.old nexts.old buckets.old spares.old) state number slot.0 last.0 }
     ensures { Falls (changed change)
-        (before freqs prevs nexts buckets spares) state number slot.0 last.0
-        (after freqs prevs nexts buckets spares) result }
+        (lent freqs.old prevs.old nexts.old buckets.old spares.old) state number slot.0 last.0
+        (lent freqs.new prevs.new nexts.new buckets.new spares.new) result }
 {
     let frequency = bucket_table::sound::frequency(&buckets[..], number);
     let lower = change.of(frequency);
@@ -70,10 +70,10 @@ fn regroup(
     state: Buckets,
     change: Change,
 ) -> Buckets
-    requires { LevelsSound (lent freqs prevs nexts buckets spares) state }
+    requires { LevelsSound (lent freqs.old prevs.old nexts.old buckets.old spares.old) state }
     ensures { Regroups (changed change)
-        (before freqs prevs nexts buckets spares) state
-        (after freqs prevs nexts buckets spares) result }
+        (lent freqs.old prevs.old nexts.old buckets.old spares.old) state
+        (lent freqs.new prevs.new nexts.new buckets.new spares.new) result }
 {
     let mut after = state;
     let mut last = Slot(NONE);
@@ -102,10 +102,10 @@ fn regrouped(
     state: State,
     change: Change,
 ) -> State
-    requires { SomeSound (lent freqs prevs nexts buckets spares) state }
+    requires { SomeSound (lent freqs.old prevs.old nexts.old buckets.old spares.old) state }
     ensures { DoesOnLevels (by_change (changed change))
-        (before freqs prevs nexts buckets spares) state
-        (after freqs prevs nexts buckets spares) result }
+        (lent freqs.old prevs.old nexts.old buckets.old spares.old) state
+        (lent freqs.new prevs.new nexts.new buckets.new spares.new) result }
 {
     let records = regroup(freqs, prevs, nexts, buckets, spares, state.buckets, change);
     let lowest = levels::sound::lowest_frequency(&buckets[..], records);
@@ -122,10 +122,10 @@ pub fn decay_halve_times(
     state: State,
     n: u64,
 ) -> State
-    requires { SomeSound (lent freqs prevs nexts buckets spares) state }
+    requires { SomeSound (lent freqs.old prevs.old nexts.old buckets.old spares.old) state }
     ensures { DoesOnLevels (ledger.decay_halve_times n)
-        (before freqs prevs nexts buckets spares) state
-        (after freqs prevs nexts buckets spares) result }
+        (lent freqs.old prevs.old nexts.old buckets.old spares.old) state
+        (lent freqs.new prevs.new nexts.new buckets.new spares.new) result }
 {
     regrouped(
         freqs,
@@ -147,10 +147,10 @@ pub fn rebase_min_freq(
     spares: &mut [u64],
     state: State,
 ) -> State
-    requires { SomeSound (lent freqs prevs nexts buckets spares) state }
+    requires { SomeSound (lent freqs.old prevs.old nexts.old buckets.old spares.old) state }
     ensures { DoesOnLevels ledger.rebase_min_freq
-        (before freqs prevs nexts buckets spares) state
-        (after freqs prevs nexts buckets spares) result }
+        (lent freqs.old prevs.old nexts.old buckets.old spares.old) state
+        (lent freqs.new prevs.new nexts.new buckets.new spares.new) result }
 {
     if state.lowest <= 1 {
         return state;

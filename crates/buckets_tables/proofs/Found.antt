@@ -104,6 +104,7 @@ module _ (t : Tables) (s : State) (l : Ledger) (h : Holds t s l) where
 
   -- of a list that is not empty
   tail_of : (k e : List ℕ) (f : ℕ) (ss : List ℕ) → NonEmpty (entries_at k e ss) → (y : Item) × (tail f (entries_at k e ss) ≡ some y) × (y.slot ≡ final NONE ss) × (y.frequency ≡ f)
+  tail_of k e f [] n = elim n [ ]
   tail_of k e f (x ∷ xs) n = (item f (entry_at k e (final x xs)), tail_entry k e f x xs, refl, refl)
 
   lowest_of_lem : (k e : List ℕ) (ls : List levels.Level) → Rising 0 (levels_at k e ls) →

@@ -2,7 +2,7 @@
 // the key index's search. Making takes tables of the right sizes, whatever they hold, in time linear in their length.
 ghost use Rattle.std.specs.Prelude.{◌<◌, length};
 ghost use Rattle.key_index.specs.Index.{IndexSound};
-ghost use Rattle.buckets_tables.specs.Slices.{lent, before, after};
+ghost use Rattle.buckets_tables.specs.Slices.{lent};
 ghost use Rattle.buckets_tables.specs.Calls.{Room, Binds, Hits, Restarts, BoundIn, LetsGo, Vacant, Hittable, EntersIndex, LeavesIndex, Wiped, Fitting, Cleared};
 
 use crate::{Hit, Placed, State};
@@ -55,10 +55,10 @@ pub fn bind(
     state: State,
     key: Key,
 ) -> Placed
-    requires { Room (lent keys freqs epochs prevs nexts arena index buckets spares) state key.0 }
+    requires { Room (lent keys.old freqs.old epochs.old prevs.old nexts.old arena.old index.old buckets.old spares.old) state key.0 }
     ensures { Binds
-        (before keys freqs epochs prevs nexts arena index buckets spares) state key.0
-        (after keys freqs epochs prevs nexts arena index buckets spares) result }
+        (lent keys.old freqs.old epochs.old prevs.old nexts.old arena.old index.old buckets.old spares.old) state key.0
+        (lent keys.new freqs.new epochs.new prevs.new nexts.new arena.new index.new buckets.new spares.new) result }
 {
     let taken = slot_arena::sound::take(arena, state.free);
     let slot = taken.slot;
@@ -149,10 +149,10 @@ pub fn let_go(
     state: State,
     slot: Slot,
 ) -> State
-    requires { BoundIn (lent keys freqs epochs prevs nexts arena index buckets spares) state slot.0 }
+    requires { BoundIn (lent keys.old freqs.old epochs.old prevs.old nexts.old arena.old index.old buckets.old spares.old) state slot.0 }
     ensures { LetsGo
-        (before keys freqs epochs prevs nexts arena index buckets spares) state slot.0
-        (after keys freqs epochs prevs nexts arena index buckets spares) result }
+        (lent keys.old freqs.old epochs.old prevs.old nexts.old arena.old index.old buckets.old spares.old) state slot.0
+        (lent keys.new freqs.new epochs.new prevs.new nexts.new arena.new index.new buckets.new spares.new) result }
 {
     leave_entry(keys, epochs, index, slot);
     let records = levels::sound::unbind(freqs, prevs, nexts, buckets, spares, state.buckets, slot);

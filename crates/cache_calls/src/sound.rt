@@ -4,9 +4,10 @@ ghost use Rattle.ledger.specs.CacheCalls.{cache_calls};
 ghost use Rattle.promise.specs.Promise.{Sound, Does};
 ghost use Rattle.answers.specs.Replies.{value_reply, least_used_reply};
 ghost use Rattle.buckets_calls.specs.Calls.{Touchable};
-ghost use Rattle.cache_tables.specs.Slices.{lent, before, after};
+ghost use Rattle.buckets_calls.specs.Calls as eight;
+ghost use Rattle.cache_tables.specs.Slices.{lent};
 ghost use Rattle.cache_tables.specs.Lent.{cache};
-ghost use Rattle.cache_calls.specs.Calls.{Gettable, Gets, Resets};
+ghost use Rattle.cache_calls.specs.Calls.{with, Gettable, Gets, Resets};
 
 use answers::{Evicted, LeastUsed, Level, Leveled, Value, Valued};
 use buckets_tables::State;
@@ -29,8 +30,10 @@ pub fn get(
     state: State,
     key: Key,
 ) -> Valued
-    requires { Gettable keys freqs epochs prevs nexts index buckets spares values state }
-    ensures { Gets key.0 keys freqs epochs prevs nexts index buckets spares values state result }
+    requires { Gettable (with keys.now freqs.old epochs.old prevs.old nexts.old index.now buckets.old spares.old values.now) state }
+    ensures { Gets key.0
+        (with keys.now freqs.old epochs.old prevs.old nexts.old index.now buckets.old spares.old values.now) state
+        (with keys.now freqs.new epochs.new prevs.new nexts.new index.now buckets.new spares.new values.now) result }
 {
     match key_index::sound::find(index, keys, key) {
         Found::At(slot) => {
@@ -74,10 +77,10 @@ pub fn remove(
     state: State,
     key: Key,
 ) -> Valued
-    requires { Sound cache (lent keys freqs epochs prevs nexts arena index buckets spares values) state }
+    requires { Sound cache (lent keys.old freqs.old epochs.old prevs.old nexts.old arena.old index.old buckets.old spares.old values.old) state }
     ensures { Does cache (cache_calls (Remove key.0))
-        (before keys freqs epochs prevs nexts arena index buckets spares values) state (value_reply result.answer)
-        (after keys freqs epochs prevs nexts arena index buckets spares values) result.state }
+        (lent keys.old freqs.old epochs.old prevs.old nexts.old arena.old index.old buckets.old spares.old values.old) state (value_reply result.answer)
+        (lent keys.new freqs.new epochs.new prevs.new nexts.new arena.new index.new buckets.new spares.new values.new) result.state }
 {
     match key_index::sound::find(&index[..], &keys[..], key) {
         Found::At(slot) => {
@@ -112,10 +115,10 @@ pub fn evict_min_freq(
     values: &mut [u64],
     state: State,
 ) -> Evicted
-    requires { Sound cache (lent keys freqs epochs prevs nexts arena index buckets spares values) state }
+    requires { Sound cache (lent keys.old freqs.old epochs.old prevs.old nexts.old arena.old index.old buckets.old spares.old values.old) state }
     ensures { Does cache (cache_calls Evict)
-        (before keys freqs epochs prevs nexts arena index buckets spares values) state (least_used_reply result.answer)
-        (after keys freqs epochs prevs nexts arena index buckets spares values) result.state }
+        (lent keys.old freqs.old epochs.old prevs.old nexts.old arena.old index.old buckets.old spares.old values.old) state (least_used_reply result.answer)
+        (lent keys.new freqs.new epochs.new prevs.new nexts.new arena.new index.new buckets.new spares.new values.new) result.state }
 {
     let slot = levels::sound::lowest(&buckets[..], state.buckets);
     if slot.0 == NONE {
@@ -149,8 +152,10 @@ pub fn reset_frequency(
     state: State,
     key: Key,
 ) -> Leveled
-    requires { Touchable keys freqs epochs prevs nexts index buckets spares state }
-    ensures { Resets key.0 keys freqs epochs prevs nexts index buckets spares state result }
+    requires { Touchable (eight.with keys.now freqs.old epochs.old prevs.old nexts.old index.now buckets.old spares.old) state }
+    ensures { Resets key.0
+        (eight.with keys.now freqs.old epochs.old prevs.old nexts.old index.now buckets.old spares.old) state
+        (eight.with keys.now freqs.new epochs.new prevs.new nexts.new index.now buckets.new spares.new) result }
 {
     match key_index::sound::find(index, keys, key) {
         Found::At(slot) => {

@@ -5,7 +5,7 @@
 ghost use Rattle.std.specs.Prelude.{◌≡◌, true, ◌↔◌, length};
 ghost use Rattle.promise.specs.Promise.{Checks};
 ghost use Rattle.promise.specs.Making.{Measures};
-ghost use Rattle.cache_tables.specs.Slices.{before};
+ghost use Rattle.cache_tables.specs.Slices.{lent};
 ghost use Rattle.cache_tables.specs.Lent.{cache};
 ghost use Rattle.cache_check.specs.Check.{short_of, AllowedBelow, ValueAllowed};
 
@@ -61,7 +61,7 @@ pub fn misfit(
     values: &[u64],
     capacity: u64,
 ) -> Answer
-    ensures { Measures cache (before keys freqs epochs prevs nexts arena index buckets spares values) capacity result }
+    ensures { Measures cache (lent keys.now freqs.now epochs.now prevs.now nexts.now arena.now index.now buckets.now spares.now values.now) capacity result }
 {
     if values.len() as u64 != capacity {
         return too_short(capacity);
@@ -85,7 +85,7 @@ pub fn refusal(
     values: &[u64],
     state: State,
 ) -> Answer
-    ensures { Checks cache (before keys freqs epochs prevs nexts arena index buckets spares values) state result }
+    ensures { Checks cache (lent keys.now freqs.now epochs.now prevs.now nexts.now arena.now index.now buckets.now spares.now values.now) state result }
 {
     if values.len() as u64 != state.capacity {
         return too_short(state.capacity);

@@ -5,7 +5,7 @@ ghost use Rattle.ledger.specs.CacheCalls.{cache_calls};
 ghost use Rattle.promise.specs.Promise.{Does, Sound};
 ghost use Rattle.buckets_tables.specs.Slices as nine;
 ghost use Rattle.answers.specs.Replies.{insertion_reply};
-ghost use Rattle.cache_tables.specs.Slices.{lent, before, after};
+ghost use Rattle.cache_tables.specs.Slices.{lent};
 ghost use Rattle.cache_tables.specs.Lent.{cache};
 ghost use Rattle.cache_inserts.specs.Entering.{NoRoom, KeyAbsent, CacheEnters};
 
@@ -29,10 +29,10 @@ fn displace(
     state: State,
     key: Key,
 ) -> Entered
-    requires { NoRoom (nine.lent keys freqs epochs prevs nexts arena index buckets spares) state key.0 }
+    requires { NoRoom (nine.lent keys.old freqs.old epochs.old prevs.old nexts.old arena.old index.old buckets.old spares.old) state key.0 }
     ensures { CacheEnters key.0
-        (nine.before keys freqs epochs prevs nexts arena index buckets spares) state
-        (nine.after keys freqs epochs prevs nexts arena index buckets spares) result }
+        (nine.lent keys.old freqs.old epochs.old prevs.old nexts.old arena.old index.old buckets.old spares.old) state
+        (nine.lent keys.new freqs.new epochs.new prevs.new nexts.new arena.new index.new buckets.new spares.new) result }
 {
     let slot = levels::sound::lowest(&buckets[..], state.buckets);
     if slot.0 == NONE {
@@ -67,10 +67,10 @@ fn enter(
     state: State,
     key: Key,
 ) -> Entered
-    requires { KeyAbsent (nine.lent keys freqs epochs prevs nexts arena index buckets spares) state key.0 }
+    requires { KeyAbsent (nine.lent keys.old freqs.old epochs.old prevs.old nexts.old arena.old index.old buckets.old spares.old) state key.0 }
     ensures { CacheEnters key.0
-        (nine.before keys freqs epochs prevs nexts arena index buckets spares) state
-        (nine.after keys freqs epochs prevs nexts arena index buckets spares) result }
+        (nine.lent keys.old freqs.old epochs.old prevs.old nexts.old arena.old index.old buckets.old spares.old) state
+        (nine.lent keys.new freqs.new epochs.new prevs.new nexts.new arena.new index.new buckets.new spares.new) result }
 {
     if state.free.first == NONE {
         return displace(
@@ -106,10 +106,10 @@ pub fn insert(
     key: Key,
     value: u64,
 ) -> Inserted
-    requires { Sound cache (lent keys freqs epochs prevs nexts arena index buckets spares values) state }
+    requires { Sound cache (lent keys.old freqs.old epochs.old prevs.old nexts.old arena.old index.old buckets.old spares.old values.old) state }
     ensures { Does cache (cache_calls (Insert key.0 value))
-        (before keys freqs epochs prevs nexts arena index buckets spares values) state (insertion_reply result.answer)
-        (after keys freqs epochs prevs nexts arena index buckets spares values) result.state }
+        (lent keys.old freqs.old epochs.old prevs.old nexts.old arena.old index.old buckets.old spares.old values.old) state (insertion_reply result.answer)
+        (lent keys.new freqs.new epochs.new prevs.new nexts.new arena.new index.new buckets.new spares.new values.new) result.state }
 {
     match key_index::sound::find(&index[..], &keys[..], key) {
         Found::At(slot) => {

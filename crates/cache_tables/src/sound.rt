@@ -1,5 +1,5 @@
 // Steps on tables that are known to be sound: they check nothing.
-ghost use Rattle.buckets_tables.specs.Slices.{lent, before, after};
+ghost use Rattle.buckets_tables.specs.Slices.{lent};
 ghost use Rattle.cache_tables.specs.Steps.{Replaceable, Replaces};
 
 use buckets_tables::State;
@@ -20,10 +20,10 @@ pub fn replace(
     slot: Slot,
     key: Key,
 ) -> State
-    requires { Replaceable (lent keys freqs epochs prevs nexts arena index buckets spares) state slot.0 key.0 }
+    requires { Replaceable (lent keys.old freqs.old epochs.old prevs.old nexts.old arena.old index.old buckets.old spares.old) state slot.0 key.0 }
     ensures { Replaces
-        (before keys freqs epochs prevs nexts arena index buckets spares) state slot.0 key.0
-        (after keys freqs epochs prevs nexts arena index buckets spares) result }
+        (lent keys.old freqs.old epochs.old prevs.old nexts.old arena.old index.old buckets.old spares.old) state slot.0 key.0
+        (lent keys.new freqs.new epochs.new prevs.new nexts.new arena.new index.new buckets.new spares.new) result }
 {
     let left = buckets_tables::sound::let_go(
         keys, freqs, epochs, prevs, nexts, arena, index, buckets, spares, state, slot,

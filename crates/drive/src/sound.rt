@@ -2,7 +2,7 @@
 // named k f e p n ar ix bk sp vs: keys, freqs, epochs, prevs, nexts, arena, index, buckets, spares and values.
 ghost use Rattle.std.specs.Prelude.{◌≡◌, ◌≤◌, length};
 ghost use Rattle.numbers.specs.Marks.{LIMIT};
-ghost use Rattle.cache_tables.specs.Slices.{before, after};
+ghost use Rattle.cache_tables.specs.Slices.{lent};
 ghost use Rattle.drive.specs.Turns.{DRIVE_PART as FULL, DriveFeeds, DriveTurns, DriveBuffers};
 
 use crate::{Fed, LAST, PART, Turned, last_line, say};
@@ -41,8 +41,8 @@ fn feed(
 ) -> Fed
     requires { DriveBuffers items.old input.now from end out.old }
     ensures { DriveFeeds input.now from end
-        (before k f e p n ar ix bk sp vs) state
-        (after k f e p n ar ix bk sp vs) out.new result }
+        (lent k.old f.old e.old p.old n.old ar.old ix.old bk.old sp.old vs.old) state
+        (lent k.new f.new e.new p.new n.new ar.new ix.new bk.new sp.new vs.new) out.new result }
 {
     let mut at: usize = 0;
     let mut next = from;
@@ -111,8 +111,8 @@ fn turn(
 ) -> Turned
     requires { DriveBuffers items.old input.old from end out.old }
     ensures { DriveTurns input.old from end
-        (before k f e p n ar ix bk sp vs) state items.new input.new
-        (after k f e p n ar ix bk sp vs) out.new result }
+        (lent k.old f.old e.old p.old n.old ar.old ix.old bk.old sp.old vs.old) state items.new input.new
+        (lent k.new f.new e.new p.new n.new ar.new ix.new bk.new sp.new vs.new) out.new result }
 {
     if end - from < RECORD {
         return onward(input, from, end, state, source);

@@ -1,6 +1,6 @@
 // The batches of `drive`: the keys of one, and the operations that take them. The tables have the names of lib.rt.
 ghost use Rattle.std.specs.Prelude.{◌≡◌, length};
-ghost use Rattle.buckets_tables.specs.Slices.{before, after};
+ghost use Rattle.buckets_tables.specs.Slices.{lent};
 ghost use Rattle.drive_buckets.specs.Operations.{batch_call, keys_from, DrivesBuckets};
 
 use buckets_tables::State;
@@ -38,8 +38,8 @@ pub fn batch(
     code: u8,
 ) -> Driven
     ensures { DrivesBuckets (batch_call code items.now)
-        (before k f e p n ar ix bk sp) state result.told
-        (after k f e p n ar ix bk sp) result.state }
+        (lent k.old f.old e.old p.old n.old ar.old ix.old bk.old sp.old) state result.told
+        (lent k.new f.new e.new p.new n.new ar.new ix.new bk.new sp.new) result.state }
 {
     match code {
         60 => counted(insert_batch(k, f, e, p, n, ar, ix, bk, sp, state, items)),

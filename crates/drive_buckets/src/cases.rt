@@ -1,6 +1,6 @@
 // The operations that are not about one key: on every key, on epochs, and those that only answer. Each function has those of its kind, and
 // sends the others on. The tables have the names of lib.rt.
-ghost use Rattle.buckets_tables.specs.Slices.{before, after};
+ghost use Rattle.buckets_tables.specs.Slices.{lent};
 ghost use Rattle.drive_buckets.specs.Operations.{query_call, epoch_call, decay_call, whole_call, DrivesBuckets};
 
 use crate::after::dated;
@@ -32,7 +32,7 @@ pub(crate) fn asks(
     code: u8,
     a: u64,
 ) -> Told
-    ensures { DrivesBuckets (query_call code a) (before k f e p n ar ix bk sp) state result (before k f e p n ar ix bk sp) state }
+    ensures { DrivesBuckets (query_call code a) (lent k.now f.now e.now p.now n.now ar.now ix.now bk.now sp.now) state result (lent k.now f.now e.now p.now n.now ar.now ix.now bk.now sp.now) state }
 {
     match code {
         6 => least(peek_min(k, f, e, p, n, ar, ix, bk, sp, state)),
@@ -66,8 +66,8 @@ pub(crate) fn dates(
     b: u64,
 ) -> Driven
     ensures { DrivesBuckets (epoch_call code a b)
-        (before k f e p n ar ix bk sp) state result.told
-        (after k f e p n ar ix bk sp) result.state }
+        (lent k.now f.now e.old p.now n.now ar.now ix.now bk.now sp.now) state result.told
+        (lent k.now f.now e.new p.now n.now ar.now ix.now bk.now sp.now) result.state }
 {
     match code {
         10 => stays(
@@ -100,8 +100,8 @@ pub(crate) fn decays(
     b: u64,
 ) -> Driven
     ensures { DrivesBuckets (decay_call code a b)
-        (before k f e p n ar ix bk sp) state result.told
-        (after k f e p n ar ix bk sp) result.state }
+        (lent k.now f.old e.old p.old n.old ar.now ix.now bk.old sp.old) state result.told
+        (lent k.now f.new e.new p.new n.new ar.now ix.now bk.new sp.new) result.state }
 {
     match code {
         17 => stored(decay_halve(k, f, &e[..], p, n, ar, ix, bk, sp, state)),
@@ -142,8 +142,8 @@ pub(crate) fn whole(
     b: u64,
 ) -> Driven
     ensures { DrivesBuckets (whole_call code a b)
-        (before k f e p n ar ix bk sp) state result.told
-        (after k f e p n ar ix bk sp) result.state }
+        (lent k.old f.old e.old p.old n.old ar.old ix.old bk.old sp.old) state result.told
+        (lent k.new f.new e.new p.new n.new ar.new ix.new bk.new sp.new) result.state }
 {
     match code {
         19 => stored(clear(k, f, e, p, n, ar, ix, &bk[..], sp, state)),

@@ -2,7 +2,7 @@
 // in one order and by short names: k f e p n ar ix bk sp are keys, freqs, epochs, prevs, nexts, arena, index, buckets and spares.
 #![tactic(auto)]
 
-ghost use Rattle.buckets_tables.specs.Slices.{before, after};
+ghost use Rattle.buckets_tables.specs.Slices.{lent};
 ghost use Rattle.buckets_tables.specs.Lent.{buckets};
 ghost use Rattle.drive_lines.specs.Driving.{Reports};
 ghost use Rattle.drive_buckets.specs.Operations.{bucket_call, DrivesBuckets};
@@ -35,8 +35,8 @@ pub fn act(
     b: u64,
 ) -> Driven
     ensures { DrivesBuckets (bucket_call code a b)
-        (before k f e p n ar ix bk sp) state result.told
-        (after k f e p n ar ix bk sp) result.state }
+        (lent k.old f.old e.old p.old n.old ar.old ix.old bk.old sp.old) state result.told
+        (lent k.new f.new e.new p.new n.new ar.new ix.new bk.new sp.new) result.state }
 {
     match code {
         1 => stored(insert(k, f, e, p, n, ar, ix, bk, sp, state, Key(a))),
@@ -87,7 +87,7 @@ pub fn check(
     sp: &[u64],
     state: State,
 ) -> Told
-    ensures { Reports buckets (before k f e p n ar ix bk sp) state result }
+    ensures { Reports buckets (lent k.now f.now e.now p.now n.now ar.now ix.now bk.now sp.now) state result }
 {
     plain(buckets_check::refusal(k, f, e, p, n, ar, ix, bk, sp, state))
 }

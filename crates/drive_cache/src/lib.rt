@@ -2,7 +2,7 @@
 // keys, freqs, epochs, prevs, nexts, arena, index, buckets, spares and values.
 #![tactic(auto)]
 
-ghost use Rattle.cache_tables.specs.Slices.{before, after};
+ghost use Rattle.cache_tables.specs.Slices.{lent};
 ghost use Rattle.drive_cache.specs.Operations.{question, cache_call, batch_call, DrivesCache};
 
 use buckets_tables::State;
@@ -33,7 +33,7 @@ pub fn asks(
     code: u8,
     a: u64,
 ) -> Told
-    ensures { DrivesCache (question code a) (before k f e p n ar ix bk sp vs) state result (before k f e p n ar ix bk sp vs) state }
+    ensures { DrivesCache (question code a) (lent k.now f.now e.now p.now n.now ar.now ix.now bk.now sp.now vs.now) state result (lent k.now f.now e.now p.now n.now ar.now ix.now bk.now sp.now vs.now) state }
 {
     match code {
         42 => value(peek(k, f, e, p, n, ar, ix, bk, sp, vs, state, Key(a))),
@@ -62,8 +62,8 @@ pub fn act(
     b: u64,
 ) -> Driven
     ensures { DrivesCache (cache_call code a b)
-        (before k f e p n ar ix bk sp vs) state result.told
-        (after k f e p n ar ix bk sp vs) result.state }
+        (lent k.old f.old e.old p.old n.old ar.old ix.old bk.old sp.old vs.old) state result.told
+        (lent k.new f.new e.new p.new n.new ar.new ix.new bk.new sp.new vs.new) result.state }
 {
     match code {
         40 => inserted(insert(k, f, e, p, n, ar, ix, bk, sp, vs, state, Key(a), b)),
@@ -97,8 +97,8 @@ pub fn batch(
     code: u8,
 ) -> Driven
     ensures { DrivesCache (batch_call code items.now given.now)
-        (before k f e p n ar ix bk sp vs) state result.told
-        (after k f e p n ar ix bk sp vs) result.state }
+        (lent k.old f.old e.old p.old n.old ar.old ix.old bk.old sp.old vs.old) state result.told
+        (lent k.new f.new e.new p.new n.new ar.new ix.new bk.new sp.new vs.new) result.state }
 {
     match code {
         63 | 66 => counted(insert_batch(k, f, e, p, n, ar, ix, bk, sp, vs, state, items, given)),

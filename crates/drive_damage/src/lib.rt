@@ -2,7 +2,7 @@
 // e p n ar ix bk sp vs: keys, freqs, epochs, prevs, nexts, arena, index, buckets, spares and values.
 #![tactic(auto)]
 
-ghost use Rattle.cache_tables.specs.Slices.{before, after};
+ghost use Rattle.cache_tables.specs.Slices.{lent};
 ghost use Rattle.drive_damage.specs.Damage.{Puts, Damages, Alters};
 
 use buckets_tables::State;
@@ -45,7 +45,7 @@ pub fn store(
     a: u64,
     b: u64,
 ) -> Word
-    ensures { Damages a b (before k f e p n ar ix bk sp vs) result (after k f e p n ar ix bk sp vs) }
+    ensures { Damages a b (lent k.old f.old e.old p.old n.old ar.old ix.old bk.old sp.old vs.old) result (lent k.new f.new e.new p.new n.new ar.new ix.new bk.new sp.new vs.new) }
 {
     let place = a % PLACES;
     match a / PLACES {

@@ -3,7 +3,7 @@
 // and values.
 ghost use Rattle.std.specs.Prelude.{◌≡◌, ◌+◌, ◌≤◌, length};
 ghost use Rattle.numbers.specs.Marks.{LIMIT};
-ghost use Rattle.cache_tables.specs.Slices.{before, after};
+ghost use Rattle.cache_tables.specs.Slices.{lent};
 ghost use Rattle.drive_walk.specs.Walk.{WALK};
 ghost use Rattle.drive_record.specs.Operations.{Acts, operation_of, batch_of};
 ghost use Rattle.drive_record.specs.Steps.{DriveSteps};
@@ -39,8 +39,8 @@ fn batch(
 ) -> Driven
     requires { length items.old ≡ LIMIT }
     ensures { Acts (batch_of code a b) a b
-        (before k f e p n ar ix bk sp vs) state result.told
-        (after k f e p n ar ix bk sp vs) result.state }
+        (lent k.old f.old e.old p.old n.old ar.old ix.old bk.old sp.old vs.old) state result.told
+        (lent k.new f.new e.new p.new n.new ar.new ix.new bk.new sp.new vs.new) result.state }
 {
     let more = surplus(code);
     if b > LIMIT - more {
@@ -80,8 +80,8 @@ pub fn act(
 ) -> Driven
     requires { length items.old ≡ LIMIT }
     ensures { Acts (operation_of code a b) a b
-        (before k f e p n ar ix bk sp vs) state result.told
-        (after k f e p n ar ix bk sp vs) result.state }
+        (lent k.old f.old e.old p.old n.old ar.old ix.old bk.old sp.old vs.old) state result.told
+        (lent k.new f.new e.new p.new n.new ar.new ix.new bk.new sp.new vs.new) result.state }
 {
     if code == 21 {
         return Driven {
@@ -129,8 +129,8 @@ pub fn step(
 ) -> Stepped
     requires { (length items.old ≡ LIMIT) × (at + WALK ≤ length out.old) }
     ensures { DriveSteps code a b
-        (before k f e p n ar ix bk sp vs) state out.old at
-        (after k f e p n ar ix bk sp vs) result.state out.new result.at }
+        (lent k.old f.old e.old p.old n.old ar.old ix.old bk.old sp.old vs.old) state out.old at
+        (lent k.new f.new e.new p.new n.new ar.new ix.new bk.new sp.new vs.new) result.state out.new result.at }
 {
     if code == 20 {
         return Stepped {

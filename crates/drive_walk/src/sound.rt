@@ -1,7 +1,7 @@
 // Writing the walk of a frequency into a lent buffer, by the reader of a walk: its start checks the tables, and then it takes a step for each
 // item. The tables are named k f e p n ar ix bk sp: keys, freqs, epochs, prevs, nexts, arena, index, buckets and spares.
 ghost use Rattle.std.specs.Prelude.{◌+◌, ◌*◌, ◌≤◌, length};
-ghost use Rattle.buckets_tables.specs.Slices.{before};
+ghost use Rattle.buckets_tables.specs.Slices.{lent};
 ghost use Rattle.trace.specs.Lines.{DIGITS};
 ghost use Rattle.trace.specs.Written.{Spells};
 ghost use Rattle.drive_walk.specs.Walk.{behind, item_text, ITEM, WALK, Listable, Placed, Lists, WalkPrints};
@@ -73,7 +73,7 @@ pub fn walk<'a>(
     at: usize,
 ) -> usize
     requires { at + WALK ≤ length out.old }
-    ensures { WalkPrints frequency (before k f e p n ar ix bk sp) state out.old at out.new result }
+    ensures { WalkPrints frequency (lent k.now f.now e.now p.now n.now ar.now ix.now bk.now sp.now) state out.old at out.new result }
 {
     let of = Frequency(frequency);
     let first = frequency_buckets_walker::first(k, f, e, p, n, ar, ix, bk, sp, state, of);

@@ -4,7 +4,7 @@
 
 ghost use Rattle.ledger.specs.BucketCalls as ledger;
 ghost use Rattle.promise.specs.Promise.{Makes};
-ghost use Rattle.buckets_tables.specs.Slices.{before, after};
+ghost use Rattle.buckets_tables.specs.Slices.{lent};
 ghost use Rattle.buckets_tables.specs.Lent as kind;
 ghost use Rattle.answers.specs.Replies.{level_reply, least_reply, plain_reply};
 
@@ -27,8 +27,8 @@ pub fn insert(
     key: Key,
 ) -> Stored
     ensures { Makes kind.buckets (ledger.Insert key.0)
-        (before keys freqs epochs prevs nexts arena index buckets spares) state (plain_reply result.answer)
-        (after keys freqs epochs prevs nexts arena index buckets spares) result.state }
+        (lent keys.old freqs.old epochs.old prevs.old nexts.old arena.old index.old buckets.old spares.old) state (plain_reply result.answer)
+        (lent keys.new freqs.new epochs.new prevs.new nexts.new arena.new index.new buckets.new spares.new) result.state }
 {
     let why = buckets_check::refusal(
         &keys[..],
@@ -69,8 +69,8 @@ pub fn touch(
     cap: Frequency,
 ) -> Leveled
     ensures { Makes kind.buckets (ledger.Touch cap.0 key.0)
-        (before keys freqs epochs prevs nexts arena index buckets spares) state (level_reply result.answer)
-        (after keys freqs epochs prevs nexts arena index buckets spares) result.state }
+        (lent keys.now freqs.old epochs.old prevs.old nexts.old arena.now index.now buckets.old spares.old) state (level_reply result.answer)
+        (lent keys.now freqs.new epochs.new prevs.new nexts.new arena.now index.now buckets.new spares.new) result.state }
 {
     let why = buckets_check::refusal(
         keys,
@@ -110,8 +110,8 @@ pub fn remove(
     key: Key,
 ) -> Leveled
     ensures { Makes kind.buckets (ledger.Remove key.0)
-        (before keys freqs epochs prevs nexts arena index buckets spares) state (level_reply result.answer)
-        (after keys freqs epochs prevs nexts arena index buckets spares) result.state }
+        (lent keys.old freqs.old epochs.old prevs.old nexts.old arena.old index.old buckets.old spares.old) state (level_reply result.answer)
+        (lent keys.new freqs.new epochs.new prevs.new nexts.new arena.new index.new buckets.new spares.new) result.state }
 {
     let why = buckets_check::refusal(
         &keys[..],
@@ -150,8 +150,8 @@ pub fn pop_min(
     state: State,
 ) -> Popped
     ensures { Makes kind.buckets ledger.PopMin
-        (before keys freqs epochs prevs nexts arena index buckets spares) state (least_reply result.answer)
-        (after keys freqs epochs prevs nexts arena index buckets spares) result.state }
+        (lent keys.old freqs.old epochs.old prevs.old nexts.old arena.old index.old buckets.old spares.old) state (least_reply result.answer)
+        (lent keys.new freqs.new epochs.new prevs.new nexts.new arena.new index.new buckets.new spares.new) result.state }
 {
     let why = buckets_check::refusal(
         &keys[..],

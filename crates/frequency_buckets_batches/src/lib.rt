@@ -3,7 +3,7 @@
 
 ghost use Rattle.ledger.specs.BucketCalls as ledger;
 ghost use Rattle.promise.specs.Promise.{Makes};
-ghost use Rattle.buckets_tables.specs.Slices.{before, after};
+ghost use Rattle.buckets_tables.specs.Slices.{lent};
 ghost use Rattle.buckets_tables.specs.Lent as kind;
 ghost use Rattle.answers.specs.Replies.{count_reply};
 
@@ -25,8 +25,8 @@ pub fn insert_batch(
     items: &[u64],
 ) -> Counted
     ensures { Makes kind.buckets (ledger.InsertBatch items.now)
-        (before keys freqs epochs prevs nexts arena index buckets spares) state (count_reply result.answer)
-        (after keys freqs epochs prevs nexts arena index buckets spares) result.state }
+        (lent keys.old freqs.old epochs.old prevs.old nexts.old arena.old index.old buckets.old spares.old) state (count_reply result.answer)
+        (lent keys.new freqs.new epochs.new prevs.new nexts.new arena.new index.new buckets.new spares.new) result.state }
 {
     let why = buckets_check::refusal(
         &keys[..],
@@ -71,8 +71,8 @@ pub fn touch_batch(
     items: &[u64],
 ) -> Counted
     ensures { Makes kind.buckets (ledger.TouchBatch items.now)
-        (before keys freqs epochs prevs nexts arena index buckets spares) state (count_reply result.answer)
-        (after keys freqs epochs prevs nexts arena index buckets spares) result.state }
+        (lent keys.now freqs.old epochs.old prevs.old nexts.old arena.now index.now buckets.old spares.old) state (count_reply result.answer)
+        (lent keys.now freqs.new epochs.new prevs.new nexts.new arena.now index.now buckets.new spares.new) result.state }
 {
     let why = buckets_check::refusal(
         keys,
@@ -117,8 +117,8 @@ pub fn remove_batch(
     items: &[u64],
 ) -> Counted
     ensures { Makes kind.buckets (ledger.RemoveBatch items.now)
-        (before keys freqs epochs prevs nexts arena index buckets spares) state (count_reply result.answer)
-        (after keys freqs epochs prevs nexts arena index buckets spares) result.state }
+        (lent keys.old freqs.old epochs.old prevs.old nexts.old arena.old index.old buckets.old spares.old) state (count_reply result.answer)
+        (lent keys.new freqs.new epochs.new prevs.new nexts.new arena.new index.new buckets.new spares.new) result.state }
 {
     let why = buckets_check::refusal(
         &keys[..],

@@ -4,7 +4,7 @@
 
 ghost use Rattle.ledger.specs.BucketCalls as calls;
 ghost use Rattle.promise.specs.Promise.{Makes};
-ghost use Rattle.buckets_tables.specs.Slices.{before, after};
+ghost use Rattle.buckets_tables.specs.Slices.{lent};
 ghost use Rattle.buckets_tables.specs.Lent as kind;
 ghost use Rattle.answers.specs.Replies.{plain_reply};
 
@@ -26,8 +26,8 @@ pub fn decay_halve(
     state: State,
 ) -> Stored
     ensures { Makes kind.buckets calls.DecayHalve
-        (before keys freqs epochs prevs nexts arena index buckets spares) state (plain_reply result.answer)
-        (after keys freqs epochs prevs nexts arena index buckets spares) result.state }
+        (lent keys.now freqs.old epochs.now prevs.old nexts.old arena.now index.now buckets.old spares.old) state (plain_reply result.answer)
+        (lent keys.now freqs.new epochs.now prevs.new nexts.new arena.now index.now buckets.new spares.new) result.state }
 {
     let why = buckets_check::refusal(
         keys,
@@ -71,8 +71,8 @@ pub fn decay_halve_times(
     n: u64,
 ) -> Stored
     ensures { Makes kind.buckets (calls.DecayHalveTimes n)
-        (before keys freqs epochs prevs nexts arena index buckets spares) state (plain_reply result.answer)
-        (after keys freqs epochs prevs nexts arena index buckets spares) result.state }
+        (lent keys.now freqs.old epochs.now prevs.old nexts.old arena.now index.now buckets.old spares.old) state (plain_reply result.answer)
+        (lent keys.now freqs.new epochs.now prevs.new nexts.new arena.now index.now buckets.new spares.new) result.state }
 {
     let why = buckets_check::refusal(
         keys,
@@ -115,8 +115,8 @@ pub fn rebase_min_freq(
     state: State,
 ) -> Stored
     ensures { Makes kind.buckets calls.RebaseMinFreq
-        (before keys freqs epochs prevs nexts arena index buckets spares) state (plain_reply result.answer)
-        (after keys freqs epochs prevs nexts arena index buckets spares) result.state }
+        (lent keys.now freqs.old epochs.now prevs.old nexts.old arena.now index.now buckets.old spares.old) state (plain_reply result.answer)
+        (lent keys.now freqs.new epochs.now prevs.new nexts.new arena.now index.now buckets.new spares.new) result.state }
 {
     let why = buckets_check::refusal(
         keys,

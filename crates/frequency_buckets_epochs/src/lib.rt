@@ -3,7 +3,7 @@
 
 ghost use Rattle.ledger.specs.BucketCalls as ledger;
 ghost use Rattle.promise.specs.Promise.{Makes};
-ghost use Rattle.buckets_tables.specs.Slices.{before, after};
+ghost use Rattle.buckets_tables.specs.Slices.{lent};
 ghost use Rattle.buckets_tables.specs.Lent as kind;
 ghost use Rattle.answers.specs.Replies.{epoch_reply, plain_reply};
 
@@ -28,8 +28,8 @@ pub fn set_epoch(
     epoch: u64,
 ) -> Stored
     ensures { Makes kind.buckets (ledger.SetEpoch epoch)
-        (before keys freqs epochs prevs nexts arena index buckets spares) state (plain_reply result.answer)
-        (before keys freqs epochs prevs nexts arena index buckets spares) result.state }
+        (lent keys.now freqs.now epochs.now prevs.now nexts.now arena.now index.now buckets.now spares.now) state (plain_reply result.answer)
+        (lent keys.now freqs.now epochs.now prevs.now nexts.now arena.now index.now buckets.now spares.now) result.state }
 {
     let why = buckets_check::refusal(
         keys, freqs, epochs, prevs, nexts, arena, index, buckets, spares, state,
@@ -60,8 +60,8 @@ pub fn advance_epoch(
     state: State,
 ) -> Dated
     ensures { Makes kind.buckets ledger.AdvanceEpoch
-        (before keys freqs epochs prevs nexts arena index buckets spares) state (epoch_reply result.answer)
-        (before keys freqs epochs prevs nexts arena index buckets spares) result.state }
+        (lent keys.now freqs.now epochs.now prevs.now nexts.now arena.now index.now buckets.now spares.now) state (epoch_reply result.answer)
+        (lent keys.now freqs.now epochs.now prevs.now nexts.now arena.now index.now buckets.now spares.now) result.state }
 {
     let why = buckets_check::refusal(
         keys, freqs, epochs, prevs, nexts, arena, index, buckets, spares, state,
@@ -95,8 +95,8 @@ pub fn set_entry_epoch(
     epoch: u64,
 ) -> Answer
     ensures { Makes kind.buckets (ledger.SetEntryEpoch key.0 epoch)
-        (before keys freqs epochs prevs nexts arena index buckets spares) state (plain_reply result)
-        (after keys freqs epochs prevs nexts arena index buckets spares) state }
+        (lent keys.now freqs.now epochs.old prevs.now nexts.now arena.now index.now buckets.now spares.now) state (plain_reply result)
+        (lent keys.now freqs.now epochs.new prevs.now nexts.now arena.now index.now buckets.now spares.now) state }
 {
     let why = buckets_check::refusal(
         keys,

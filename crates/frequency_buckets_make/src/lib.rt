@@ -5,7 +5,7 @@ ghost use Rattle.ledger.specs.Ledger as ledger;
 ghost use Rattle.ledger.specs.BucketCalls as calls;
 ghost use Rattle.promise.specs.Promise.{Makes};
 ghost use Rattle.promise.specs.Making.{Made};
-ghost use Rattle.buckets_tables.specs.Slices.{before, after};
+ghost use Rattle.buckets_tables.specs.Slices.{lent};
 ghost use Rattle.buckets_tables.specs.Lent as kind;
 ghost use Rattle.answers.specs.Replies.{plain_reply};
 
@@ -27,8 +27,8 @@ pub fn new(
     capacity: u64,
 ) -> Stored
     ensures { Made kind.buckets kind.nothing (ledger.new capacity) capacity
-        (before keys freqs epochs prevs nexts arena index buckets spares) (plain_reply result.answer)
-        (after keys freqs epochs prevs nexts arena index buckets spares) result.state }
+        (lent keys.old freqs.old epochs.old prevs.old nexts.old arena.old index.old buckets.now spares.old) (plain_reply result.answer)
+        (lent keys.new freqs.new epochs.new prevs.new nexts.new arena.new index.new buckets.now spares.new) result.state }
 {
     let why = buckets_check::misfit(
         &keys[..],
@@ -71,8 +71,8 @@ pub fn clear(
     state: State,
 ) -> Stored
     ensures { Makes kind.buckets calls.Clear
-        (before keys freqs epochs prevs nexts arena index buckets spares) state (plain_reply result.answer)
-        (after keys freqs epochs prevs nexts arena index buckets spares) result.state }
+        (lent keys.old freqs.old epochs.old prevs.old nexts.old arena.old index.old buckets.now spares.old) state (plain_reply result.answer)
+        (lent keys.new freqs.new epochs.new prevs.new nexts.new arena.new index.new buckets.now spares.new) result.state }
 {
     let why = buckets_check::refusal(
         &keys[..],

@@ -4,7 +4,7 @@
 
 ghost use Rattle.ledger.specs.BucketCalls as ledger;
 ghost use Rattle.promise.specs.Promise.{Answers};
-ghost use Rattle.buckets_tables.specs.Slices.{before};
+ghost use Rattle.buckets_tables.specs.Slices.{lent};
 ghost use Rattle.buckets_tables.specs.Lent as kind;
 ghost use Rattle.answers.specs.Replies.{level_reply, least_reply, epoch_reply, count_reply, asked_reply};
 
@@ -28,7 +28,7 @@ pub fn len(
     state: State,
 ) -> Count
     ensures { Answers kind.buckets (ledger.Ask ledger.Len)
-        (before keys freqs epochs prevs nexts arena index buckets spares) state (count_reply result) }
+        (lent keys.now freqs.now epochs.now prevs.now nexts.now arena.now index.now buckets.now spares.now) state (count_reply result) }
 {
     let why = buckets_check::refusal(
         keys, freqs, epochs, prevs, nexts, arena, index, buckets, spares, state,
@@ -53,7 +53,7 @@ pub fn is_empty(
     state: State,
 ) -> Asked
     ensures { Answers kind.buckets (ledger.Ask ledger.IsEmpty)
-        (before keys freqs epochs prevs nexts arena index buckets spares) state (asked_reply result) }
+        (lent keys.now freqs.now epochs.now prevs.now nexts.now arena.now index.now buckets.now spares.now) state (asked_reply result) }
 {
     let why = buckets_check::refusal(
         keys, freqs, epochs, prevs, nexts, arena, index, buckets, spares, state,
@@ -79,7 +79,7 @@ pub fn contains(
     key: Key,
 ) -> Asked
     ensures { Answers kind.buckets (ledger.Ask (ledger.Contains key.0))
-        (before keys freqs epochs prevs nexts arena index buckets spares) state (asked_reply result) }
+        (lent keys.now freqs.now epochs.now prevs.now nexts.now arena.now index.now buckets.now spares.now) state (asked_reply result) }
 {
     let why = buckets_check::refusal(
         keys, freqs, epochs, prevs, nexts, arena, index, buckets, spares, state,
@@ -104,7 +104,7 @@ pub fn current_epoch(
     state: State,
 ) -> Epoch
     ensures { Answers kind.buckets (ledger.Ask ledger.CurrentEpoch)
-        (before keys freqs epochs prevs nexts arena index buckets spares) state (epoch_reply result) }
+        (lent keys.now freqs.now epochs.now prevs.now nexts.now arena.now index.now buckets.now spares.now) state (epoch_reply result) }
 {
     let why = buckets_check::refusal(
         keys, freqs, epochs, prevs, nexts, arena, index, buckets, spares, state,
@@ -130,7 +130,7 @@ pub fn frequency(
     key: Key,
 ) -> Level
     ensures { Answers kind.buckets (ledger.Ask (ledger.Frequency key.0))
-        (before keys freqs epochs prevs nexts arena index buckets spares) state (level_reply result) }
+        (lent keys.now freqs.now epochs.now prevs.now nexts.now arena.now index.now buckets.now spares.now) state (level_reply result) }
 {
     let why = buckets_check::refusal(
         keys, freqs, epochs, prevs, nexts, arena, index, buckets, spares, state,
@@ -156,7 +156,7 @@ pub fn entry_epoch(
     key: Key,
 ) -> Epoch
     ensures { Answers kind.buckets (ledger.Ask (ledger.EntryEpoch key.0))
-        (before keys freqs epochs prevs nexts arena index buckets spares) state (epoch_reply result) }
+        (lent keys.now freqs.now epochs.now prevs.now nexts.now arena.now index.now buckets.now spares.now) state (epoch_reply result) }
 {
     let why = buckets_check::refusal(
         keys, freqs, epochs, prevs, nexts, arena, index, buckets, spares, state,
@@ -181,7 +181,7 @@ pub fn min_freq(
     state: State,
 ) -> Level
     ensures { Answers kind.buckets (ledger.Ask ledger.MinFreq)
-        (before keys freqs epochs prevs nexts arena index buckets spares) state (level_reply result) }
+        (lent keys.now freqs.now epochs.now prevs.now nexts.now arena.now index.now buckets.now spares.now) state (level_reply result) }
 {
     let why = buckets_check::refusal(
         keys, freqs, epochs, prevs, nexts, arena, index, buckets, spares, state,
@@ -206,7 +206,7 @@ pub fn peek_min(
     state: State,
 ) -> Least
     ensures { Answers kind.buckets (ledger.Ask ledger.PeekMin)
-        (before keys freqs epochs prevs nexts arena index buckets spares) state (least_reply result) }
+        (lent keys.now freqs.now epochs.now prevs.now nexts.now arena.now index.now buckets.now spares.now) state (least_reply result) }
 {
     let why = buckets_check::refusal(
         keys, freqs, epochs, prevs, nexts, arena, index, buckets, spares, state,
@@ -232,7 +232,7 @@ pub fn bucket_len(
     frequency: Frequency,
 ) -> Count
     ensures { Answers kind.buckets (ledger.Ask (ledger.BucketLen frequency.0))
-        (before keys freqs epochs prevs nexts arena index buckets spares) state (count_reply result) }
+        (lent keys.now freqs.now epochs.now prevs.now nexts.now arena.now index.now buckets.now spares.now) state (count_reply result) }
 {
     let why = buckets_check::refusal(
         keys, freqs, epochs, prevs, nexts, arena, index, buckets, spares, state,
@@ -258,7 +258,7 @@ pub fn len_up_to(
     frequency: Frequency,
 ) -> Count
     ensures { Answers kind.buckets (ledger.Ask (ledger.LenUpTo frequency.0))
-        (before keys freqs epochs prevs nexts arena index buckets spares) state (count_reply result) }
+        (lent keys.now freqs.now epochs.now prevs.now nexts.now arena.now index.now buckets.now spares.now) state (count_reply result) }
 {
     let why = buckets_check::refusal(
         keys, freqs, epochs, prevs, nexts, arena, index, buckets, spares, state,

@@ -1,7 +1,7 @@
 // The walk of a frequency over any lent tables: each call checks first. Between two calls a walk is only the number of a slot.
 ghost use Rattle.ledger.specs.BucketCalls as ledger;
 ghost use Rattle.promise.specs.Promise.{Answers};
-ghost use Rattle.buckets_tables.specs.Slices.{before};
+ghost use Rattle.buckets_tables.specs.Slices.{lent};
 ghost use Rattle.buckets_tables.specs.Lent as kind;
 ghost use Rattle.answers.specs.Replies.{step_reply};
 
@@ -24,7 +24,7 @@ pub fn start(
     frequency: Frequency,
 ) -> Step
     ensures { Answers kind.buckets (ledger.Ask (ledger.WalkStart frequency.0))
-        (before keys freqs epochs prevs nexts arena index buckets spares) state (step_reply result) }
+        (lent keys.now freqs.now epochs.now prevs.now nexts.now arena.now index.now buckets.now spares.now) state (step_reply result) }
 {
     let why = buckets_check::refusal(
         keys, freqs, epochs, prevs, nexts, arena, index, buckets, spares, state,
@@ -50,7 +50,7 @@ pub fn step(
     slot: Slot,
 ) -> Step
     ensures { Answers kind.buckets (ledger.Ask (ledger.WalkStep slot.0))
-        (before keys freqs epochs prevs nexts arena index buckets spares) state (step_reply result) }
+        (lent keys.now freqs.now epochs.now prevs.now nexts.now arena.now index.now buckets.now spares.now) state (step_reply result) }
 {
     let why = buckets_check::refusal(
         keys, freqs, epochs, prevs, nexts, arena, index, buckets, spares, state,

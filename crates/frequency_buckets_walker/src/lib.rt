@@ -5,7 +5,7 @@
 #![tactic(auto)]
 
 ghost use Rattle.std.specs.Prelude.{◌≡◌};
-ghost use Rattle.buckets_tables.specs.Slices.{before};
+ghost use Rattle.buckets_tables.specs.Slices.{lent};
 ghost use Rattle.frequency_buckets_walker.specs.Stands.{is_refused};
 ghost use Rattle.frequency_buckets_walker.specs.Walks.{Starts, Steps, Nth};
 
@@ -57,7 +57,7 @@ pub fn start<'a>(
     frequency: Frequency,
 ) -> Walker<'a>
     ensures { (result.links ≡ nexts.entry) × Starts
-        (before keys freqs epochs prevs nexts arena index buckets spares) state frequency.0 result.at }
+        (lent keys.now freqs.now epochs.now prevs.now nexts.now arena.now index.now buckets.now spares.now) state frequency.0 result.at }
 {
     Walker {
         links: nexts,
@@ -99,7 +99,7 @@ pub fn first<'a>(
     state: State,
     frequency: Frequency,
 ) -> Stand
-    ensures { Starts (before keys freqs epochs prevs nexts arena index buckets spares) state frequency.0 result }
+    ensures { Starts (lent keys.now freqs.now epochs.now prevs.now nexts.now arena.now index.now buckets.now spares.now) state frequency.0 result }
 {
     stands(start(
         keys, freqs, epochs, prevs, nexts, arena, index, buckets, spares, state, frequency,
@@ -132,7 +132,7 @@ pub fn nth<'a>(
     frequency: Frequency,
     n: u64,
 ) -> Stand
-    ensures { Nth (before keys freqs epochs prevs nexts arena index buckets spares) state frequency.0 n result }
+    ensures { Nth (lent keys.now freqs.now epochs.now prevs.now nexts.now arena.now index.now buckets.now spares.now) state frequency.0 n result }
 {
     let mut at = first(
         keys, freqs, epochs, prevs, nexts, arena, index, buckets, spares, state, frequency,

@@ -1,6 +1,6 @@
 // The work of a walker, on plain tables: its start checks them and looks up the head of a list, its step follows one link.
 ghost use Rattle.std.specs.Prelude.{◌≡◌};
-ghost use Rattle.buckets_tables.specs.Slices.{before};
+ghost use Rattle.buckets_tables.specs.Slices.{lent};
 ghost use Rattle.frequency_buckets_walker.specs.Stands.{of_step, of_link, place_of, stand_of};
 ghost use Rattle.frequency_buckets_walker.specs.Walks.{Starts, Steps};
 
@@ -67,7 +67,7 @@ pub fn start_at<'a>(
     state: State,
     frequency: Frequency,
 ) -> Stand
-    ensures { Starts (before keys freqs epochs prevs nexts arena index buckets spares) state frequency.0 result }
+    ensures { Starts (lent keys.now freqs.now epochs.now prevs.now nexts.now arena.now index.now buckets.now spares.now) state frequency.0 result }
 {
     let why = buckets_check::refusal(
         keys, freqs, epochs, prevs, nexts, arena, index, buckets, spares, state,

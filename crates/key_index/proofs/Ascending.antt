@@ -40,6 +40,7 @@ module _ (key : ℕ → ℕ) where
 
   -- one key has one member
   pub asc_one : (ss : List ℕ) (x y : ℕ) → Ascending key ss → In x ss → In y ss → key x ≡ key y → x ≡ y
+  asc_one [] x y h x6 _ e = elim x6 [ ]
   asc_one (z ∷ ss) x y h (inl p) (inl q) e = sym p ∙ q
   asc_one (z ∷ ss) x y h (inl p) (inr j) e = absurd (omega (arith, ap key p, all_in (λ r. key z < key r) ss y h.0 j))
   asc_one (z ∷ ss) x y h (inr i) (inl q) e = absurd (omega (arith, ap key q, all_in (λ r. key z < key r) ss x h.0 i))
@@ -47,5 +48,6 @@ module _ (key : ℕ → ℕ) where
 
   -- a member with the least key comes first
   pub asc_first : (ss : List ℕ) (x : ℕ) → Ascending key ss → In x ss → All (λ s. key x ≤ key s) ss → (ys : List ℕ) × (ss ≡ x ∷ ys)
+  asc_first [] x h x5 a = elim x5 [ ]
   asc_first (z ∷ ss) x h (inl p) a = (ss, ap (λ (k : ℕ). k ∷ ss) p)
   asc_first (z ∷ ss) x h (inr i) a = absurd (omega (arith, a.0, all_in (λ r. key z < key r) ss x h.0 i))

@@ -7,7 +7,7 @@ ghost use Rattle.std.specs.Prelude.{◌≡◌, true, ◌↔◌, ◌<◌, length,
 ghost use Rattle.lists.specs.Marks.{count};
 ghost use Rattle.bucket_table.specs.Records.{InTable};
 ghost use Rattle.levels.specs.Held.{Even, LevelsSound};
-ghost use Rattle.levels.specs.Slices.{before};
+ghost use Rattle.levels.specs.Slices.{lent};
 ghost use Rattle.levels.specs.Check.{taken, CleanSlot, Clean, SomeRecords, SlotOk, ListWalk, LevelsWalk, LevelsSized};
 
 use bucket_table::Buckets;
@@ -192,7 +192,7 @@ pub fn is_sound(
     spares: &[u64],
     state: Buckets,
 ) -> bool
-    ensures { (result ≡ true) ↔ LevelsSound (before freqs prevs nexts buckets spares) state }
+    ensures { (result ≡ true) ↔ LevelsSound (lent freqs.now prevs.now nexts.now buckets.now spares.now) state }
 {
     let capacity = freqs.len();
     if capacity as u64 > LIMIT {

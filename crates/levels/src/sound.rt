@@ -3,7 +3,7 @@ ghost use Rattle.std.specs.Prelude.{◌≡◌, true, ◌<◌, length, get_or};
 ghost use Rattle.links.specs.Linked.{Fits};
 ghost use Rattle.bucket_table.specs.Records.{up, InTable, Spot};
 ghost use Rattle.levels.specs.Held.{Even};
-ghost use Rattle.levels.specs.Slices.{lent, before, after};
+ghost use Rattle.levels.specs.Slices.{lent};
 ghost use Rattle.levels.specs.Calls.{Frees, Attaching, Attaches, Fronts, InPlace, Lifts, Leaving, Ready, Binding, Unbinds, SoundWith, Lowest, LowestFrequency, Heads, SlotBound, LevelTouches, LevelRestarts, LevelBinds, LevelLeaves, LevelEnters, LevelsReset, LevelEnds, Counts, CountsUpTo};
 
 use crate::{Left, Touched};
@@ -95,8 +95,8 @@ pub fn leave(
     number: u64,
     slot: Slot,
 ) -> Left
-    requires { Leaving (lent freqs prevs nexts buckets spares) state number slot.0 }
-    ensures { LevelLeaves (before freqs prevs nexts buckets spares) state slot.0 (after freqs prevs nexts buckets spares) result }
+    requires { Leaving (lent freqs.old prevs.old nexts.old buckets.old spares.old) state number slot.0 }
+    ensures { LevelLeaves (lent freqs.old prevs.old nexts.old buckets.old spares.old) state slot.0 (lent freqs.new prevs.new nexts.new buckets.new spares.new) result }
 {
     let ends = bucket_table::sound::ends(&buckets[..], number);
     let rest = links::sound::unlink(prevs, nexts, ends, slot);
@@ -128,10 +128,10 @@ pub fn enter(
     frequency: Frequency,
     slot: Slot,
 ) -> Buckets
-    requires { Ready (lent freqs prevs nexts buckets spares) state at slot.0 }
+    requires { Ready (lent freqs.old prevs.old nexts.old buckets.old spares.old) state at slot.0 }
     ensures { LevelEnters
-        (before freqs prevs nexts buckets spares) state at frequency.0 slot.0
-        (after freqs prevs nexts buckets spares) result }
+        (lent freqs.old prevs.old nexts.old buckets.old spares.old) state at frequency.0 slot.0
+        (lent freqs.new prevs.new nexts.new buckets.new spares.new) result }
 {
     let opened = bucket_table::sound::ensure(buckets, spares, state, at, frequency);
     attach(freqs, prevs, nexts, buckets, opened.number, frequency, slot);
@@ -149,10 +149,10 @@ pub fn touch(
     slot: Slot,
     cap: Frequency,
 ) -> Touched
-    requires { SlotBound (lent freqs prevs nexts buckets spares) state slot.0 }
+    requires { SlotBound (lent freqs.old prevs.old nexts.old buckets.old spares.old) state slot.0 }
     ensures { LevelTouches
-        (before freqs prevs nexts buckets spares) state slot.0 cap.0
-        (after freqs prevs nexts buckets spares) result }
+        (lent freqs.old prevs.old nexts.old buckets.old spares.old) state slot.0 cap.0
+        (lent freqs.new prevs.new nexts.new buckets.new spares.new) result }
 {
     let number = bucket_table::sound::owner(&buckets[..], slot);
     let f = bucket_table::sound::frequency(&buckets[..], number);
@@ -191,8 +191,8 @@ pub fn restart(
     state: Buckets,
     slot: Slot,
 ) -> Buckets
-    requires { SlotBound (lent freqs prevs nexts buckets spares) state slot.0 }
-    ensures { LevelRestarts (before freqs prevs nexts buckets spares) state slot.0 (after freqs prevs nexts buckets spares) result }
+    requires { SlotBound (lent freqs.old prevs.old nexts.old buckets.old spares.old) state slot.0 }
+    ensures { LevelRestarts (lent freqs.old prevs.old nexts.old buckets.old spares.old) state slot.0 (lent freqs.new prevs.new nexts.new buckets.new spares.new) result }
 {
     let number = bucket_table::sound::owner(&buckets[..], slot);
     let left = leave(freqs, prevs, nexts, buckets, spares, state, number, slot);
@@ -209,8 +209,8 @@ pub fn bind(
     state: Buckets,
     slot: Slot,
 ) -> Buckets
-    requires { Binding (lent freqs prevs nexts buckets spares) state slot.0 }
-    ensures { LevelBinds (before freqs prevs nexts buckets spares) state slot.0 (after freqs prevs nexts buckets spares) result }
+    requires { Binding (lent freqs.old prevs.old nexts.old buckets.old spares.old) state slot.0 }
+    ensures { LevelBinds (lent freqs.old prevs.old nexts.old buckets.old spares.old) state slot.0 (lent freqs.new prevs.new nexts.new buckets.new spares.new) result }
 {
     enter(
         freqs,
@@ -235,8 +235,8 @@ pub fn unbind(
     state: Buckets,
     slot: Slot,
 ) -> Buckets
-    requires { SlotBound (lent freqs prevs nexts buckets spares) state slot.0 }
-    ensures { Unbinds (before freqs prevs nexts buckets spares) state slot.0 (after freqs prevs nexts buckets spares) result }
+    requires { SlotBound (lent freqs.old prevs.old nexts.old buckets.old spares.old) state slot.0 }
+    ensures { Unbinds (lent freqs.old prevs.old nexts.old buckets.old spares.old) state slot.0 (lent freqs.new prevs.new nexts.new buckets.new spares.new) result }
 {
     let number = bucket_table::sound::owner(&buckets[..], slot);
     let left = leave(freqs, prevs, nexts, buckets, spares, state, number, slot);

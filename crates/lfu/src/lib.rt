@@ -5,7 +5,7 @@
 ghost use Rattle.ledger.specs.History as ledger;
 ghost use Rattle.promise.specs.Promise.{Makes};
 ghost use Rattle.answers.specs.Replies.{level_reply, insertion_reply, value_reply, least_used_reply};
-ghost use Rattle.cache_tables.specs.Slices.{before, after};
+ghost use Rattle.cache_tables.specs.Slices.{lent};
 ghost use Rattle.cache_tables.specs.Lent.{cache};
 
 use answers::{Evicted, Inserted, Insertion, LeastUsed, Level, Leveled, Value, Valued};
@@ -30,8 +30,8 @@ pub fn insert(
     value: u64,
 ) -> Inserted
     ensures { Makes cache (ledger.Insert key.0 value)
-        (before keys freqs epochs prevs nexts arena index buckets spares values) state (insertion_reply result.answer)
-        (after keys freqs epochs prevs nexts arena index buckets spares values) result.state }
+        (lent keys.old freqs.old epochs.old prevs.old nexts.old arena.old index.old buckets.old spares.old values.old) state (insertion_reply result.answer)
+        (lent keys.new freqs.new epochs.new prevs.new nexts.new arena.new index.new buckets.new spares.new values.new) result.state }
 {
     let why = cache_check::refusal(
         &keys[..],
@@ -74,8 +74,8 @@ pub fn get(
     key: Key,
 ) -> Valued
     ensures { Makes cache (ledger.Get key.0)
-        (before keys freqs epochs prevs nexts arena index buckets spares values) state (value_reply result.answer)
-        (after keys freqs epochs prevs nexts arena index buckets spares values) result.state }
+        (lent keys.now freqs.old epochs.old prevs.old nexts.old arena.now index.now buckets.old spares.old values.now) state (value_reply result.answer)
+        (lent keys.now freqs.new epochs.new prevs.new nexts.new arena.now index.now buckets.new spares.new values.now) result.state }
 {
     let why = cache_check::refusal(
         keys,
@@ -117,8 +117,8 @@ pub fn remove(
     key: Key,
 ) -> Valued
     ensures { Makes cache (ledger.Remove key.0)
-        (before keys freqs epochs prevs nexts arena index buckets spares values) state (value_reply result.answer)
-        (after keys freqs epochs prevs nexts arena index buckets spares values) result.state }
+        (lent keys.old freqs.old epochs.old prevs.old nexts.old arena.old index.old buckets.old spares.old values.old) state (value_reply result.answer)
+        (lent keys.new freqs.new epochs.new prevs.new nexts.new arena.new index.new buckets.new spares.new values.new) result.state }
 {
     let why = cache_check::refusal(
         &keys[..],
@@ -159,8 +159,8 @@ pub fn evict_min_freq(
     state: State,
 ) -> Evicted
     ensures { Makes cache ledger.Evict
-        (before keys freqs epochs prevs nexts arena index buckets spares values) state (least_used_reply result.answer)
-        (after keys freqs epochs prevs nexts arena index buckets spares values) result.state }
+        (lent keys.old freqs.old epochs.old prevs.old nexts.old arena.old index.old buckets.old spares.old values.old) state (least_used_reply result.answer)
+        (lent keys.new freqs.new epochs.new prevs.new nexts.new arena.new index.new buckets.new spares.new values.new) result.state }
 {
     let why = cache_check::refusal(
         &keys[..],
@@ -202,8 +202,8 @@ pub fn reset_frequency(
     key: Key,
 ) -> Leveled
     ensures { Makes cache (ledger.Reset key.0)
-        (before keys freqs epochs prevs nexts arena index buckets spares values) state (level_reply result.answer)
-        (after keys freqs epochs prevs nexts arena index buckets spares values) result.state }
+        (lent keys.now freqs.old epochs.old prevs.old nexts.old arena.now index.now buckets.old spares.old values.now) state (level_reply result.answer)
+        (lent keys.now freqs.new epochs.new prevs.new nexts.new arena.now index.now buckets.new spares.new values.now) result.state }
 {
     let why = cache_check::refusal(
         keys,

@@ -6,7 +6,7 @@ ghost use Rattle.ledger.specs.CacheCalls.{remove_batch_call, touch_batch_call};
 ghost use Rattle.ledger.specs.Buckets.{was_done};
 ghost use Rattle.promise.specs.Promise.{Promised};
 ghost use Rattle.answers.specs.Replies.{count_reply, insertion_reply, value_reply};
-ghost use Rattle.cache_tables.specs.Slices.{before, after};
+ghost use Rattle.cache_tables.specs.Slices.{lent};
 ghost use Rattle.cache_tables.specs.Lent.{cache};
 ghost use Rattle.lfu_batches.specs.Batches.{bound_in, BatchChecks, InsertsAll};
 
@@ -55,7 +55,7 @@ fn refusal(
     given: &[u64],
 ) -> Answer
     ensures { BatchChecks items.now given.now
-        (before keys freqs epochs prevs nexts arena index buckets spares values) state result }
+        (lent keys.now freqs.now epochs.now prevs.now nexts.now arena.now index.now buckets.now spares.now values.now) state result }
 {
     if items.len() != given.len() {
         return cache_check::too_short(state.capacity);
@@ -82,8 +82,8 @@ pub fn insert_batch(
     given: &[u64],
 ) -> Counted
     ensures { InsertsAll items.now given.now
-        (before keys freqs epochs prevs nexts arena index buckets spares values) state (count_reply result.answer)
-        (after keys freqs epochs prevs nexts arena index buckets spares values) result.state }
+        (lent keys.old freqs.old epochs.old prevs.old nexts.old arena.old index.old buckets.old spares.old values.old) state (count_reply result.answer)
+        (lent keys.new freqs.new epochs.new prevs.new nexts.new arena.new index.new buckets.new spares.new values.new) result.state }
 {
     let why = refusal(
         &keys[..],
@@ -133,8 +133,8 @@ pub fn remove_batch(
     items: &[u64],
 ) -> Counted
     ensures { Promised cache (remove_batch_call items.now)
-        (before keys freqs epochs prevs nexts arena index buckets spares values) state (count_reply result.answer)
-        (after keys freqs epochs prevs nexts arena index buckets spares values) result.state }
+        (lent keys.old freqs.old epochs.old prevs.old nexts.old arena.old index.old buckets.old spares.old values.old) state (count_reply result.answer)
+        (lent keys.new freqs.new epochs.new prevs.new nexts.new arena.new index.new buckets.new spares.new values.new) result.state }
 {
     let why = cache_check::refusal(
         &keys[..],
@@ -181,8 +181,8 @@ pub fn touch_batch(
     items: &[u64],
 ) -> Counted
     ensures { Promised cache (touch_batch_call items.now)
-        (before keys freqs epochs prevs nexts arena index buckets spares values) state (count_reply result.answer)
-        (after keys freqs epochs prevs nexts arena index buckets spares values) result.state }
+        (lent keys.now freqs.old epochs.old prevs.old nexts.old arena.now index.now buckets.old spares.old values.now) state (count_reply result.answer)
+        (lent keys.now freqs.new epochs.new prevs.new nexts.new arena.now index.now buckets.new spares.new values.now) result.state }
 {
     let why = cache_check::refusal(
         keys,

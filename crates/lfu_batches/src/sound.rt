@@ -4,7 +4,7 @@ ghost use Rattle.std.specs.Prelude.{◌≡◌, length};
 ghost use Rattle.ledger.specs.CacheCalls.{insert_batch_call, remove_batch_call};
 ghost use Rattle.promise.specs.Promise.{Does, Sound};
 ghost use Rattle.answers.specs.Replies.{number_reply};
-ghost use Rattle.cache_tables.specs.Slices.{lent, before, after};
+ghost use Rattle.cache_tables.specs.Slices.{lent};
 ghost use Rattle.cache_tables.specs.Lent.{cache};
 ghost use Rattle.lfu_batches.specs.Batches.{pairs};
 
@@ -29,10 +29,10 @@ pub fn insert_batch(
     items: &[u64],
     given: &[u64],
 ) -> Batched
-    requires { Sound cache (lent keys freqs epochs prevs nexts arena index buckets spares values) state × (length items.now ≡ length given.now) }
+    requires { Sound cache (lent keys.old freqs.old epochs.old prevs.old nexts.old arena.old index.old buckets.old spares.old values.old) state × (length items.now ≡ length given.now) }
     ensures { Does cache (insert_batch_call (pairs items.now given.now))
-        (before keys freqs epochs prevs nexts arena index buckets spares values) state (number_reply result.done)
-        (after keys freqs epochs prevs nexts arena index buckets spares values) result.state }
+        (lent keys.old freqs.old epochs.old prevs.old nexts.old arena.old index.old buckets.old spares.old values.old) state (number_reply result.done)
+        (lent keys.new freqs.new epochs.new prevs.new nexts.new arena.new index.new buckets.new spares.new values.new) result.state }
 {
     let mut done: u64 = 0;
     let mut i = 0;
@@ -81,10 +81,10 @@ pub fn remove_batch(
     mut state: State,
     items: &[u64],
 ) -> Batched
-    requires { Sound cache (lent keys freqs epochs prevs nexts arena index buckets spares values) state }
+    requires { Sound cache (lent keys.old freqs.old epochs.old prevs.old nexts.old arena.old index.old buckets.old spares.old values.old) state }
     ensures { Does cache (remove_batch_call items.now)
-        (before keys freqs epochs prevs nexts arena index buckets spares values) state (number_reply result.done)
-        (after keys freqs epochs prevs nexts arena index buckets spares values) result.state }
+        (lent keys.old freqs.old epochs.old prevs.old nexts.old arena.old index.old buckets.old spares.old values.old) state (number_reply result.done)
+        (lent keys.new freqs.new epochs.new prevs.new nexts.new arena.new index.new buckets.new spares.new values.new) result.state }
 {
     let mut done: u64 = 0;
     let mut i = 0;

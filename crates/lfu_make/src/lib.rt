@@ -7,7 +7,7 @@ ghost use Rattle.promise.specs.Promise.{Makes};
 ghost use Rattle.promise.specs.Making.{Made};
 ghost use Rattle.buckets_tables.specs.Lent.{nothing};
 ghost use Rattle.answers.specs.Replies.{plain_reply};
-ghost use Rattle.cache_tables.specs.Slices.{before, after};
+ghost use Rattle.cache_tables.specs.Slices.{lent};
 ghost use Rattle.cache_tables.specs.Lent.{cache};
 
 use answers::Stored;
@@ -31,8 +31,8 @@ pub fn new(
     capacity: u64,
 ) -> Stored
     ensures { Made cache nothing (new_cache capacity) capacity
-        (before keys freqs epochs prevs nexts arena index buckets spares values) (plain_reply result.answer)
-        (after keys freqs epochs prevs nexts arena index buckets spares values) result.state }
+        (lent keys.old freqs.old epochs.old prevs.old nexts.old arena.old index.old buckets.now spares.old values.old) (plain_reply result.answer)
+        (lent keys.new freqs.new epochs.new prevs.new nexts.new arena.new index.new buckets.now spares.new values.new) result.state }
 {
     let why = cache_check::misfit(
         &keys[..],
@@ -77,8 +77,8 @@ pub fn clear(
     state: State,
 ) -> Stored
     ensures { Makes cache Clear
-        (before keys freqs epochs prevs nexts arena index buckets spares values) state (plain_reply result.answer)
-        (after keys freqs epochs prevs nexts arena index buckets spares values) result.state }
+        (lent keys.old freqs.old epochs.old prevs.old nexts.old arena.old index.old buckets.now spares.old values.old) state (plain_reply result.answer)
+        (lent keys.new freqs.new epochs.new prevs.new nexts.new arena.new index.new buckets.now spares.new values.new) result.state }
 {
     let why = cache_check::refusal(
         &keys[..],

@@ -4,7 +4,7 @@
 ghost use Rattle.ledger.specs.History as ledger;
 ghost use Rattle.promise.specs.Promise.{Answers};
 ghost use Rattle.answers.specs.Replies.{count_reply, value_reply, least_used_reply};
-ghost use Rattle.cache_tables.specs.Slices.{before};
+ghost use Rattle.cache_tables.specs.Slices.{lent};
 ghost use Rattle.cache_tables.specs.Lent.{cache};
 
 use answers::{Count, LeastUsed, Value};
@@ -27,7 +27,7 @@ pub fn peek(
     key: Key,
 ) -> Value
     ensures { Answers cache (ledger.Peek key.0)
-        (before keys freqs epochs prevs nexts arena index buckets spares values) state (value_reply result) }
+        (lent keys.now freqs.now epochs.now prevs.now nexts.now arena.now index.now buckets.now spares.now values.now) state (value_reply result) }
 {
     let why = cache_check::refusal(
         keys, freqs, epochs, prevs, nexts, arena, index, buckets, spares, values, state,
@@ -53,7 +53,7 @@ pub fn peek_lfu(
     state: State,
 ) -> LeastUsed
     ensures { Answers cache ledger.PeekLfu
-        (before keys freqs epochs prevs nexts arena index buckets spares values) state (least_used_reply result) }
+        (lent keys.now freqs.now epochs.now prevs.now nexts.now arena.now index.now buckets.now spares.now values.now) state (least_used_reply result) }
 {
     let why = cache_check::refusal(
         keys, freqs, epochs, prevs, nexts, arena, index, buckets, spares, values, state,
@@ -79,7 +79,7 @@ pub fn len(
     state: State,
 ) -> Count
     ensures { Answers cache ledger.Len
-        (before keys freqs epochs prevs nexts arena index buckets spares values) state (count_reply result) }
+        (lent keys.now freqs.now epochs.now prevs.now nexts.now arena.now index.now buckets.now spares.now values.now) state (count_reply result) }
 {
     let why = cache_check::refusal(
         keys, freqs, epochs, prevs, nexts, arena, index, buckets, spares, values, state,

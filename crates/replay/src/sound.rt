@@ -1,7 +1,7 @@
 // The turns of a replay on tables that are known to be sound: a part of the input is read, carried out, and what it prints is written.
 ghost use Rattle.std.specs.Prelude.{◌≤◌};
 ghost use Rattle.promise.specs.Promise.{Sound};
-ghost use Rattle.cache_tables.specs.Slices.{lent, before, after};
+ghost use Rattle.cache_tables.specs.Slices.{lent};
 ghost use Rattle.cache_tables.specs.Lent.{cache};
 ghost use Rattle.trace.specs.Output.{SLOTS};
 ghost use Rattle.trace_input.specs.Feeding.{Sizes};
@@ -30,10 +30,10 @@ fn turn(
     input: &mut [u8],
     out: &mut [u8],
 ) -> Turned
-    requires { Sound cache (lent keys freqs epochs prevs nexts arena index buckets spares values) state × PartBuffers input.old out.old }
+    requires { Sound cache (lent keys.old freqs.old epochs.old prevs.old nexts.old arena.old index.old buckets.old spares.old values.old) state × PartBuffers input.old out.old }
     ensures { ReplayTurns
-        (before keys freqs epochs prevs nexts arena index buckets spares values) state input.new
-        (after keys freqs epochs prevs nexts arena index buckets spares values) out.new result }
+        (lent keys.old freqs.old epochs.old prevs.old nexts.old arena.old index.old buckets.old spares.old values.old) state input.new
+        (lent keys.new freqs.new epochs.new prevs.new nexts.new arena.new index.new buckets.new spares.new values.new) out.new result }
 {
     let n = io::read_full(from, &mut input[..PART]);
     let printed = trace_input::sound::part(
@@ -82,7 +82,7 @@ fn run(
     input: &mut [u8],
     out: &mut [u8],
 )
-    requires { Sizes (lent keys freqs epochs prevs nexts arena index buckets spares values) capacity × PartBuffers input.old out.old }
+    requires { Sizes (lent keys.old freqs.old epochs.old prevs.old nexts.old arena.old index.old buckets.old spares.old values.old) capacity × PartBuffers input.old out.old }
 {
     let mut after = lfu_make::sound::make(
         keys, freqs, epochs, prevs, nexts, arena, index, spares, values, capacity,

@@ -2,7 +2,7 @@
 // is written into a lent buffer.
 ghost use Rattle.std.specs.Prelude.{◌≡◌, ◌+◌, ◌*◌, ◌≤◌, length, take, drop};
 ghost use Rattle.promise.specs.Promise.{Sound};
-ghost use Rattle.cache_tables.specs.Slices.{lent, before, after};
+ghost use Rattle.cache_tables.specs.Slices.{lent};
 ghost use Rattle.cache_tables.specs.Lent.{cache};
 ghost use Rattle.trace.specs.Lines.{LONGEST};
 ghost use Rattle.trace.specs.Output.{little};
@@ -50,10 +50,10 @@ fn feed(
     n: usize,
     out: &mut [u8],
 ) -> Fed
-    requires { Sound cache (lent keys freqs epochs prevs nexts arena index buckets spares values) state × (n ≤ length input.now) × (n * PRINT ≤ length out.old) }
+    requires { Sound cache (lent keys.old freqs.old epochs.old prevs.old nexts.old arena.old index.old buckets.old spares.old values.old) state × (n ≤ length input.now) × (n * PRINT ≤ length out.old) }
     ensures { Feeds
-        (before keys freqs epochs prevs nexts arena index buckets spares values) state input.now n
-        (after keys freqs epochs prevs nexts arena index buckets spares values) out.new result }
+        (lent keys.old freqs.old epochs.old prevs.old nexts.old arena.old index.old buckets.old spares.old values.old) state input.now n
+        (lent keys.new freqs.new epochs.new prevs.new nexts.new arena.new index.new buckets.new spares.new values.new) out.new result }
 {
     let mut at: usize = 0;
     let mut next: usize = 0;
@@ -105,10 +105,10 @@ pub fn part(
     n: usize,
     out: &mut [u8],
 ) -> Printed
-    requires { Sound cache (lent keys freqs epochs prevs nexts arena index buckets spares values) state × (n ≤ length input.now) × (n * PRINT + LONGEST ≤ length out.old) }
+    requires { Sound cache (lent keys.old freqs.old epochs.old prevs.old nexts.old arena.old index.old buckets.old spares.old values.old) state × (n ≤ length input.now) × (n * PRINT + LONGEST ≤ length out.old) }
     ensures { Parts
-        (before keys freqs epochs prevs nexts arena index buckets spares values) state input.now n
-        (after keys freqs epochs prevs nexts arena index buckets spares values) out.new result }
+        (lent keys.old freqs.old epochs.old prevs.old nexts.old arena.old index.old buckets.old spares.old values.old) state input.now n
+        (lent keys.new freqs.new epochs.new prevs.new nexts.new arena.new index.new buckets.new spares.new values.new) out.new result }
 {
     let fed = feed(
         keys, freqs, epochs, prevs, nexts, arena, index, buckets, spares, values, state, input, n,

@@ -1,16 +1,13 @@
 -- What a step on the cache's tables does: the shape of its promises; and, for those that are not lent every table, the same for every
 -- table that may stand beside those that are.
 use Rattle.std.specs.Prelude.{◌≡◌, List, ℕ}
-use Rattle.lists.specs.Slices.{Passed, Slice}
 use Rattle.ledger.specs.Cache.{Cache}
 use Rattle.ledger.specs.History.{Get, Peek, Reset, PeekLfu, Clear}
 use Rattle.promise.specs.Promise.{Sound}
 use Rattle.buckets_tables.specs.declared.State.{State}
-use Rattle.buckets_tables.specs.Tables.{tables}
-use Rattle.buckets_calls.specs.Calls as eight
+use Rattle.buckets_tables.specs.Tables.{Tables, tables}
 use Rattle.cache_tables.specs.Tables.{CacheTables, with_values, CacheHolds}
 use Rattle.cache_tables.specs.Lent.{cache}
-use Rattle.cache_calls.specs.Calls.{before, after}
 use Rattle.trace.specs.declared.Line.{Line}
 use Rattle.trace.specs.Lines.{text, tells, LONGEST}
 use Rattle.trace.specs.Written.{Spells}
@@ -26,15 +23,12 @@ RecordPrints f t s out at t' s' out' r =
     (c : Cache) → CacheHolds t s c → Spells out at (text (f c).0) LONGEST out' r × CacheHolds t' s' (f c).1
 
 -- a get is not lent the arena
-abbrev pub OfGet : (key : ℕ) → (keys freqs epochs prevs nexts index buckets spares values : Slice) → State → Told → Type 0
-OfGet key k f e p n i b sp vs s r =
-    (a : List ℕ) → Lines (tells (Get key)) (before a k f e p n i b sp vs) s r.line (after a k f e p n i b sp vs) r.state
+abbrev pub OfGet : (key : ℕ) → (List ℕ → CacheTables) → State → (List ℕ → CacheTables) → Told → Type 0
+OfGet key t s t' r = (a : List ℕ) → Lines (tells (Get key)) (t a) s r.line (t' a) r.state
 
 -- a reset is lent neither the arena nor the values
-abbrev pub OfReset : (key : ℕ) → (keys freqs epochs prevs nexts index buckets spares : Slice) → State → Told → Type 0
-OfReset key k f e p n i b sp s r =
-    (a vs : List ℕ) →
-    Lines (tells (Reset key)) (with_values (eight.before a k f e p n i b sp) vs) s r.line (with_values (eight.after a k f e p n i b sp) vs) r.state
+abbrev pub OfReset : (key : ℕ) → (List ℕ → Tables) → State → (List ℕ → Tables) → Told → Type 0
+OfReset key t s t' r = (a vs : List ℕ) → Lines (tells (Reset key)) (with_values (t a) vs) s r.line (with_values (t' a) vs) r.state
 
 -- a peek is lent keys, index and values
 abbrev pub OfPeek : (key : ℕ) → (k i vs : List ℕ) → State → Told → Type 0
@@ -47,14 +41,11 @@ OfPeekLfu k b vs s r =
     (f e p n a i sp : List ℕ) → let t = with_values (tables k f e p n a i b sp) vs in Lines (tells PeekLfu) t s r.line t r.state
 
 -- a clear is lent all tables but the bucket records: with some of those, they are sound
-abbrev pub beside : (buckets : List ℕ) → (keys freqs epochs prevs nexts arena index spares values : Passed) → CacheTables
-beside b k f e p n a i sp vs = with_values (tables k.now f.now e.now p.now n.now a.now i.now b sp.now) vs.now
+abbrev pub beside : (keys freqs epochs prevs nexts arena index spares values : List ℕ) → (buckets : List ℕ) → CacheTables
+beside k f e p n a i sp vs b = with_values (tables k f e p n a i b sp) vs
 
-abbrev pub Clearable : (keys freqs epochs prevs nexts arena index spares values : Passed) → State → Type 0
-Clearable k f e p n a i sp vs s = (b : List ℕ) × Sound cache (beside b k f e p n a i sp vs) s
+abbrev pub Clearable : (List ℕ → CacheTables) → State → Type 0
+Clearable t s = (b : List ℕ) × Sound cache (t b) s
 
-abbrev pub OfClear : (keys freqs epochs prevs nexts arena index spares values : Slice) → State → Told → Type 0
-OfClear k f e p n a i sp vs s r =
-    (b : List ℕ) →
-    Lines (tells Clear) (beside b k.entry f.entry e.entry p.entry n.entry a.entry i.entry sp.entry vs.entry) s r.line
-    (beside b k.exit f.exit e.exit p.exit n.exit a.exit i.exit sp.exit vs.exit) r.state
+abbrev pub OfClear : (List ℕ → CacheTables) → State → (List ℕ → CacheTables) → Told → Type 0
+OfClear t s t' r = (b : List ℕ) → Lines (tells Clear) (t b) s r.line (t' b) r.state

@@ -1,7 +1,7 @@
 // Steps on tables that are known to be sound, and into a buffer that is known to have room: they check nothing.
 ghost use Rattle.std.specs.Prelude.{◌≡◌, ◌+◌, ◌≤◌, length};
 ghost use Rattle.promise.specs.Promise.{Sound};
-ghost use Rattle.cache_tables.specs.Slices.{lent, before, after};
+ghost use Rattle.cache_tables.specs.Slices.{lent};
 ghost use Rattle.cache_tables.specs.Lent.{cache};
 ghost use Rattle.trace.specs.Lines.{step as steps, LONGEST};
 ghost use Rattle.trace_record.specs.Steps.{Lines, RecordPrints};
@@ -41,10 +41,10 @@ fn act(
     code: u8,
     ask: Ask,
 ) -> Told
-    requires { Sound cache (lent k f e p n a i b sp vs) ask.state }
+    requires { Sound cache (lent k.old f.old e.old p.old n.old a.old i.old b.old sp.old vs.old) ask.state }
     ensures { Lines (steps code ask.key.0 ask.value)
-        (before k f e p n a i b sp vs) ask.state result.line
-        (after k f e p n a i b sp vs) result.state }
+        (lent k.old f.old e.old p.old n.old a.old i.old b.old sp.old vs.old) ask.state result.line
+        (lent k.new f.new e.new p.new n.new a.new i.new b.new sp.new vs.new) result.state }
 {
     match code {
         1 => insert(k, f, e, p, n, a, i, b, sp, vs, ask),
@@ -79,10 +79,10 @@ pub fn step(
     out: &mut [u8],
     at: usize,
 ) -> Stepped
-    requires { Sound cache (lent keys freqs epochs prevs nexts arena index buckets spares values) state × (at + LONGEST ≤ length out.old) }
+    requires { Sound cache (lent keys.old freqs.old epochs.old prevs.old nexts.old arena.old index.old buckets.old spares.old values.old) state × (at + LONGEST ≤ length out.old) }
     ensures { RecordPrints (steps code key.0 value)
-        (before keys freqs epochs prevs nexts arena index buckets spares values) state out.old at
-        (after keys freqs epochs prevs nexts arena index buckets spares values) result.state out.new result.at }
+        (lent keys.old freqs.old epochs.old prevs.old nexts.old arena.old index.old buckets.old spares.old values.old) state out.old at
+        (lent keys.new freqs.new epochs.new prevs.new nexts.new arena.new index.new buckets.new spares.new values.new) result.state out.new result.at }
 {
     let ask = Ask {
         state: state,

@@ -30,7 +30,7 @@ fn afresh(
     records: &[u8],
     out: &mut [u8],
 ) -> usize
-    requires { Sizes (lent keys freqs epochs prevs nexts arena index buckets spares values) capacity × (length records.now * PRINT + LONGEST ≤ length out.old) }
+    requires { Sizes (lent keys.old freqs.old epochs.old prevs.old nexts.old arena.old index.old buckets.old spares.old values.old) capacity × (length records.now * PRINT + LONGEST ≤ length out.old) }
     ensures { InputShows (part_output (new_cache capacity) records.now) out.new result }
 {
     let state = lfu_make::sound::make(

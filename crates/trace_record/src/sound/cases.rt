@@ -4,12 +4,13 @@ ghost use Rattle.ledger.specs.History.{Insert, Remove, Evict};
 ghost use Rattle.promise.specs.Promise.{Sound};
 ghost use Rattle.key_index.specs.Index.{IndexSound};
 ghost use Rattle.buckets_calls.specs.Calls.{Touchable};
-ghost use Rattle.cache_tables.specs.Slices.{lent, before, after};
+ghost use Rattle.buckets_calls.specs.Calls as eight;
+ghost use Rattle.cache_tables.specs.Slices.{lent};
 ghost use Rattle.cache_tables.specs.Lent.{cache};
-ghost use Rattle.cache_calls.specs.Calls.{Gettable, CachePeekable};
+ghost use Rattle.cache_calls.specs.Calls.{with, Gettable, CachePeekable};
 ghost use Rattle.trace.specs.Lines.{tells};
 ghost use Rattle.trace_record.specs.Answers.{insertion_line, value_line, least_line, level_line};
-ghost use Rattle.trace_record.specs.Steps.{Clearable, OfGet, OfReset, OfPeek, OfPeekLfu, OfClear, Lines};
+ghost use Rattle.trace_record.specs.Steps.{beside, Clearable, OfGet, OfReset, OfPeek, OfPeekLfu, OfClear, Lines};
 
 use crate::{Ask, Told};
 use answers::{Insertion, LeastUsed, Level, Value};
@@ -71,10 +72,10 @@ pub(crate) fn insert(
     values: &mut [u64],
     ask: Ask,
 ) -> Told
-    requires { Sound cache (lent keys freqs epochs prevs nexts arena index buckets spares values) ask.state }
+    requires { Sound cache (lent keys.old freqs.old epochs.old prevs.old nexts.old arena.old index.old buckets.old spares.old values.old) ask.state }
     ensures { Lines (tells (Insert ask.key.0 ask.value))
-        (before keys freqs epochs prevs nexts arena index buckets spares values) ask.state result.line
-        (after keys freqs epochs prevs nexts arena index buckets spares values) result.state }
+        (lent keys.old freqs.old epochs.old prevs.old nexts.old arena.old index.old buckets.old spares.old values.old) ask.state result.line
+        (lent keys.new freqs.new epochs.new prevs.new nexts.new arena.new index.new buckets.new spares.new values.new) result.state }
 {
     let state = ask.state;
     let key = ask.key;
@@ -103,8 +104,10 @@ pub(crate) fn get(
     values: &[u64],
     ask: Ask,
 ) -> Told
-    requires { Gettable keys freqs epochs prevs nexts index buckets spares values ask.state }
-    ensures { OfGet ask.key.0 keys freqs epochs prevs nexts index buckets spares values ask.state result }
+    requires { Gettable (with keys.now freqs.old epochs.old prevs.old nexts.old index.now buckets.old spares.old values.now) ask.state }
+    ensures { OfGet ask.key.0
+        (with keys.now freqs.old epochs.old prevs.old nexts.old index.now buckets.old spares.old values.now) ask.state
+        (with keys.now freqs.new epochs.new prevs.new nexts.new index.now buckets.new spares.new values.now) result }
 {
     let state = ask.state;
     let key = ask.key;
@@ -133,10 +136,10 @@ pub(crate) fn remove(
     values: &mut [u64],
     ask: Ask,
 ) -> Told
-    requires { Sound cache (lent keys freqs epochs prevs nexts arena index buckets spares values) ask.state }
+    requires { Sound cache (lent keys.old freqs.old epochs.old prevs.old nexts.old arena.old index.old buckets.old spares.old values.old) ask.state }
     ensures { Lines (tells (Remove ask.key.0))
-        (before keys freqs epochs prevs nexts arena index buckets spares values) ask.state result.line
-        (after keys freqs epochs prevs nexts arena index buckets spares values) result.state }
+        (lent keys.old freqs.old epochs.old prevs.old nexts.old arena.old index.old buckets.old spares.old values.old) ask.state result.line
+        (lent keys.new freqs.new epochs.new prevs.new nexts.new arena.new index.new buckets.new spares.new values.new) result.state }
 {
     let state = ask.state;
     let key = ask.key;
@@ -165,10 +168,10 @@ pub(crate) fn evict(
     values: &mut [u64],
     ask: Ask,
 ) -> Told
-    requires { Sound cache (lent keys freqs epochs prevs nexts arena index buckets spares values) ask.state }
+    requires { Sound cache (lent keys.old freqs.old epochs.old prevs.old nexts.old arena.old index.old buckets.old spares.old values.old) ask.state }
     ensures { Lines (tells Evict)
-        (before keys freqs epochs prevs nexts arena index buckets spares values) ask.state result.line
-        (after keys freqs epochs prevs nexts arena index buckets spares values) result.state }
+        (lent keys.old freqs.old epochs.old prevs.old nexts.old arena.old index.old buckets.old spares.old values.old) ask.state result.line
+        (lent keys.new freqs.new epochs.new prevs.new nexts.new arena.new index.new buckets.new spares.new values.new) result.state }
 {
     let state = ask.state;
     let done = cache_calls::sound::evict_min_freq(
@@ -194,8 +197,10 @@ pub(crate) fn reset(
     spares: &mut [u64],
     ask: Ask,
 ) -> Told
-    requires { Touchable keys freqs epochs prevs nexts index buckets spares ask.state }
-    ensures { OfReset ask.key.0 keys freqs epochs prevs nexts index buckets spares ask.state result }
+    requires { Touchable (eight.with keys.now freqs.old epochs.old prevs.old nexts.old index.now buckets.old spares.old) ask.state }
+    ensures { OfReset ask.key.0
+        (eight.with keys.now freqs.old epochs.old prevs.old nexts.old index.now buckets.old spares.old) ask.state
+        (eight.with keys.now freqs.new epochs.new prevs.new nexts.new index.now buckets.new spares.new) result }
 {
     let state = ask.state;
     let key = ask.key;
@@ -249,8 +254,10 @@ pub(crate) fn clear(
     values: &mut [u64],
     ask: Ask,
 ) -> Told
-    requires { Clearable keys freqs epochs prevs nexts arena index spares values ask.state }
-    ensures { OfClear keys freqs epochs prevs nexts arena index spares values ask.state result }
+    requires { Clearable (beside keys.old freqs.old epochs.old prevs.old nexts.old arena.old index.old spares.old values.old) ask.state }
+    ensures { OfClear
+        (beside keys.old freqs.old epochs.old prevs.old nexts.old arena.old index.old spares.old values.old) ask.state
+        (beside keys.new freqs.new epochs.new prevs.new nexts.new arena.new index.new spares.new values.new) result }
 {
     let state = ask.state;
     let after = lfu_make::sound::make(
