@@ -23,19 +23,19 @@ enter-requires c =
     laws.left_ready _ _ _ _ _ _ _ c.frequency-frequency.ensures _ c.of-lower.ensures (changed_lowers c.args.change) c.if-lower-frequency.false _ _ c.leave-left.ensures c.requires _ c.place_above-at.ensures
 
 pub shape_of-freqs : goal.shape_of-freqs
-shape_of-freqs c = c.enter.auto.0 ∙ c.leave-left.auto.0
+shape_of-freqs c = c.enter.auto.freqs ∙ c.leave-left.auto.freqs
 
 pub shape_of-prevs : goal.shape_of-prevs
-shape_of-prevs c = c.enter.auto.1.0 ∙ c.leave-left.auto.1.0
+shape_of-prevs c = c.enter.auto.prevs ∙ c.leave-left.auto.prevs
 
 pub shape_of-nexts : goal.shape_of-nexts
-shape_of-nexts c = c.enter.auto.1.1.0 ∙ c.leave-left.auto.1.1.0
+shape_of-nexts c = c.enter.auto.nexts ∙ c.leave-left.auto.nexts
 
 pub shape_of-buckets : goal.shape_of-buckets
-shape_of-buckets c = c.enter.auto.1.1.1.0 ∙ c.leave-left.auto.1.1.1.0
+shape_of-buckets c = c.enter.auto.buckets ∙ c.leave-left.auto.buckets
 
 pub shape_of-spares : goal.shape_of-spares
-shape_of-spares c = c.enter.auto.1.1.1.1.0 ∙ c.leave-left.auto.1.1.1.1.0
+shape_of-spares c = c.enter.auto.spares ∙ c.leave-left.auto.spares
 
 pub returns : goal.returns
 returns c =

@@ -37,11 +37,11 @@ loop-number-preserved c =
     let was = c.loop-number.invariant.0 in
     let kept = c.fall-after.auto in (
       record {
-        freqs_size = kept.0 ∙ was.freqs_size;
-        prevs_size = kept.1.0 ∙ was.prevs_size;
-        nexts_size = kept.1.1.0 ∙ was.nexts_size;
-        buckets_size = kept.1.1.1.0 ∙ was.buckets_size;
-        spares_size = kept.1.1.1.1.0 ∙ was.spares_size;
+        freqs_size = kept.freqs ∙ was.freqs_size;
+        prevs_size = kept.prevs ∙ was.prevs_size;
+        nexts_size = kept.nexts ∙ was.nexts_size;
+        buckets_size = kept.buckets ∙ was.buckets_size;
+        spares_size = kept.spares ∙ was.spares_size;
       },
       λ ls h. midway_on _ (changed_lowers c.args.change) _ _ _ _ _ (c.loop-number.invariant.1 ls h) c.loop-number-test.true _ c.ends-ends.ensures.1 _ _ c.fall-after.ensures _ c.owner-own.ensures _ c.above-number.ensures,
     )

@@ -11,23 +11,23 @@ pub lowest_frequency-lowest-requires : goal.lowest_frequency-lowest-requires
 lowest_frequency-lowest-requires c = lists_after _ _ _ _ _ c.regroup-records.ensures c.requires
 
 pub shape_of-freqs : goal.shape_of-freqs
-shape_of-freqs c = c.regroup-records.auto.0
+shape_of-freqs c = c.regroup-records.auto.freqs
 
 pub shape_of-prevs : goal.shape_of-prevs
-shape_of-prevs c = c.regroup-records.auto.1.0
+shape_of-prevs c = c.regroup-records.auto.prevs
 
 pub shape_of-nexts : goal.shape_of-nexts
-shape_of-nexts c = c.regroup-records.auto.1.1.0
+shape_of-nexts c = c.regroup-records.auto.nexts
 
 pub shape_of-buckets : goal.shape_of-buckets
-shape_of-buckets c = c.regroup-records.auto.1.1.1.0
+shape_of-buckets c = c.regroup-records.auto.buckets
 
 pub shape_of-spares : goal.shape_of-spares
-shape_of-spares c = c.regroup-records.auto.1.1.1.1.0
+shape_of-spares c = c.regroup-records.auto.spares
 
 pub returns : goal.returns
 returns c =
     let kept = c.regroup-records.auto in
     regroup_does _ _ _ _ _ c.regroup-records.ensures (changed_lowers c.args.change)
-    (record { freqs_size = kept.0; prevs_size = kept.1.0; nexts_size = kept.1.1.0; buckets_size = kept.1.1.1.0; spares_size = kept.1.1.1.1.0 })
+    (record { freqs_size = kept.freqs; prevs_size = kept.prevs; nexts_size = kept.nexts; buckets_size = kept.buckets; spares_size = kept.spares })
     _ c.lowest_frequency-lowest.ensures _ c.recounted.ensures

@@ -4,4 +4,4 @@ use Rattle.buckets_tables.specs.Calls.{dated}
 use Rattle.buckets_tables.proofs.State.advanced.Goals as goal
 
 pub returns : goal.returns
-returns c = ap (dated c.args.self) c.wrapping_add_u64.ensures
+returns c = ap (dated c.args.self) c.wrapping_add_u64.ensures.value

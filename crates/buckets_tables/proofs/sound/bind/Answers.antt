@@ -19,16 +19,16 @@ pub overflow_add-state : goal.overflow_add-state
 overflow_add-state c = let room = asked.room_count _ _ _ c.requires in search rules
 
 pub shape_of-keys : goal.shape_of-keys
-shape_of-keys c = c.enter_entry.auto.0
+shape_of-keys c = c.enter_entry.auto.keys
 
 pub shape_of-epochs : goal.shape_of-epochs
-shape_of-epochs c = c.enter_entry.auto.1.0
+shape_of-epochs c = c.enter_entry.auto.epochs
 
 pub shape_of-arena : goal.shape_of-arena
-shape_of-arena c = c.take-taken.auto.0
+shape_of-arena c = c.take-taken.auto.arena
 
 pub shape_of-index : goal.shape_of-index
-shape_of-index c = c.enter_entry.auto.1.1.0
+shape_of-index c = c.enter_entry.auto.index
 
 pub returns : goal.returns
 returns c =
@@ -36,5 +36,5 @@ returns c =
     let entered = c.enter_entry in
     let listed = c.bind-records in
     asked.bound_so _ _ _ room _ _ _ _ _ c.take-taken.ensures entered.ensures _ _ _ _ _ _ listed.ensures _ c.lowest_frequency-lowest.ensures
-    (asked.sized_like _ _ room.holds.sized _ _ _ _ _ _ _ _ _ entered.auto.0 listed.auto.0 entered.auto.1.0 listed.auto.1.0 listed.auto.1.1.0 c.take-taken.auto.0
-    entered.auto.1.1.0 listed.auto.1.1.1.0 listed.auto.1.1.1.1.0) _ c.recounted-after.ensures
+    (asked.sized_like _ _ room.holds.sized _ _ _ _ _ _ _ _ _ entered.auto.keys listed.auto.freqs entered.auto.epochs listed.auto.prevs listed.auto.nexts c.take-taken.auto.arena
+    entered.auto.index listed.auto.buckets listed.auto.spares) _ c.recounted-after.ensures

@@ -20,4 +20,4 @@ pub returns : goal.returns
 returns c =
     let touched = c.touch-touched in
     asked.hit_so _ _ _ _ _ _ _ _ _ _ _ _ _ _ _ _ _ refl c.lowest_frequency-lowest.ensures c.recounted-after.ensures
-    touched.auto.0 touched.auto.1.0 touched.auto.1.1.0 touched.auto.1.1.1.0 touched.auto.1.1.1.1.0 _ _ touched.ensures
+    touched.auto.freqs touched.auto.prevs touched.auto.nexts touched.auto.buckets touched.auto.spares _ _ touched.ensures

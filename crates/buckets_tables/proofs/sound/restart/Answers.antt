@@ -20,4 +20,4 @@ pub returns : goal.returns
 returns c =
     let restarted = c.restart-records in
     asked.restart_so _ _ _ _ _ _ _ _ _ _ _ _ _ _ _ _ _ refl c.lowest_frequency-lowest.ensures c.recounted.ensures
-    restarted.auto.0 restarted.auto.1.0 restarted.auto.1.1.0 restarted.auto.1.1.1.0 restarted.auto.1.1.1.1.0 restarted.ensures
+    restarted.auto.freqs restarted.auto.prevs restarted.auto.nexts restarted.auto.buckets restarted.auto.spares restarted.ensures

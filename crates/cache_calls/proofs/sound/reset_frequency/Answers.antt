@@ -20,19 +20,19 @@ restart-after-requires c =
     (c.args.keys.now, c.requires.0, c.args.index.now, doing.found_bound _ _ _ _ c.requires.1 (subst (Finds c.args.index.now c.args.keys.now c.args.key.0) c.slot-1.given.1 c.find.ensures))
 
 pub shape_of-freqs : goal.shape_of-freqs
-shape_of-freqs c = c.restart-after.auto.0
+shape_of-freqs c = c.restart-after.auto.freqs
 
 pub shape_of-epochs : goal.shape_of-epochs
-shape_of-epochs c = c.restart-after.auto.1.0
+shape_of-epochs c = c.restart-after.auto.epochs
 
 pub shape_of-prevs : goal.shape_of-prevs
-shape_of-prevs c = c.restart-after.auto.1.1.0
+shape_of-prevs c = c.restart-after.auto.prevs
 
 pub shape_of-nexts : goal.shape_of-nexts
-shape_of-nexts c = c.restart-after.auto.1.1.1.0
+shape_of-nexts c = c.restart-after.auto.nexts
 
 pub shape_of-buckets : goal.shape_of-buckets
-shape_of-buckets c = c.restart-after.auto.1.1.1.1.0
+shape_of-buckets c = c.restart-after.auto.buckets
 
 pub returns-in-At : goal.returns-in-At
 returns-in-At c =

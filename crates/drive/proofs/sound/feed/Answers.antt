@@ -48,7 +48,7 @@ loop-next-smaller c =
 
 pub loop-next-preserved : goal.loop-next-preserved
 loop-next-preserved c =
-    let begun = c.loop-next.invariant.begun in let test = c.loop-next-test.true in feeding_more _ _ _ _ _ _ _ _ _ _ _ _ _ c.loop-next.invariant (omega arith) (leb-true _ _ c.if-at-le-LAST.true-raw) _ _ _ refl c.number-a.ensures c.number-b.ensures _ _ _ _ _ c.step-stepped.ensures (record { keys = c.step-stepped.auto.0; freqs = c.step-stepped.auto.1.0; epochs = c.step-stepped.auto.1.1.0; prevs = c.step-stepped.auto.1.1.1.0; nexts = c.step-stepped.auto.1.1.1.1.0; arena = c.step-stepped.auto.1.1.1.1.1.0; index = c.step-stepped.auto.1.1.1.1.1.1.0; buckets = c.step-stepped.auto.1.1.1.1.1.1.1.0; spares = c.step-stepped.auto.1.1.1.1.1.1.1.1.0; values = c.step-stepped.auto.1.1.1.1.1.1.1.1.1.0 }) c.step-stepped.auto.1.1.1.1.1.1.1.1.1.1.0 c.step-stepped.auto.1.1.1.1.1.1.1.1.1.1.1.1.1.1.1.0
+    let begun = c.loop-next.invariant.begun in let test = c.loop-next-test.true in feeding_more _ _ _ _ _ _ _ _ _ _ _ _ _ c.loop-next.invariant (omega arith) (leb-true _ _ c.if-at-le-LAST.true-raw) _ _ _ refl c.number-a.ensures c.number-b.ensures _ _ _ _ _ c.step-stepped.ensures (record { keys = c.step-stepped.auto.k; freqs = c.step-stepped.auto.f; epochs = c.step-stepped.auto.e; prevs = c.step-stepped.auto.p; nexts = c.step-stepped.auto.n; arena = c.step-stepped.auto.ar; index = c.step-stepped.auto.ix; buckets = c.step-stepped.auto.bk; spares = c.step-stepped.auto.sp; values = c.step-stepped.auto.vs }) c.step-stepped.auto.items c.step-stepped.auto.out
 
 pub shape_of-k-else-at-le-LAST : goal.shape_of-k-else-at-le-LAST
 shape_of-k-else-at-le-LAST c = c.loop-next.invariant.sizes.keys

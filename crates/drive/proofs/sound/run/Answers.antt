@@ -32,7 +32,7 @@ loop-turns-smaller c = let some = c.loop-turns-test.true in omega arith
 
 pub loop-turns-preserved : goal.loop-turns-preserved
 loop-turns-preserved c =
-    record { sizes = sizes_then _ _ _ c.loop-turns.invariant.sizes (record { keys = c.turn-turned.auto.0; freqs = c.turn-turned.auto.1.0; epochs = c.turn-turned.auto.1.1.0; prevs = c.turn-turned.auto.1.1.1.0; nexts = c.turn-turned.auto.1.1.1.1.0; arena = c.turn-turned.auto.1.1.1.1.1.0; index = c.turn-turned.auto.1.1.1.1.1.1.0; buckets = c.turn-turned.auto.1.1.1.1.1.1.1.0; spares = c.turn-turned.auto.1.1.1.1.1.1.1.1.0; values = c.turn-turned.auto.1.1.1.1.1.1.1.1.1.0 }); buffers = c.turn-turned.ensures.buffers; input_size = c.loop-turns.invariant.input_size ∙ sym c.turn-turned.auto.1.1.1.1.1.1.1.1.1.1.1.1.0; out_size = c.loop-turns.invariant.out_size ∙ sym c.turn-turned.auto.1.1.1.1.1.1.1.1.1.1.1.1.1.1.1.0 }
+    record { sizes = sizes_then _ _ _ c.loop-turns.invariant.sizes (record { keys = c.turn-turned.auto.k; freqs = c.turn-turned.auto.f; epochs = c.turn-turned.auto.e; prevs = c.turn-turned.auto.p; nexts = c.turn-turned.auto.n; arena = c.turn-turned.auto.ar; index = c.turn-turned.auto.ix; buckets = c.turn-turned.auto.bk; spares = c.turn-turned.auto.sp; values = c.turn-turned.auto.vs }); buffers = c.turn-turned.ensures.buffers; input_size = c.loop-turns.invariant.input_size ∙ sym c.turn-turned.auto.input; out_size = c.loop-turns.invariant.out_size ∙ sym c.turn-turned.auto.out }
 
 pub shape_of-k-else-more : goal.shape_of-k-else-more
 shape_of-k-else-more c = c.loop-turns.invariant.sizes.keys

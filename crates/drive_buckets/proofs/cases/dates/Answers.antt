@@ -7,7 +7,7 @@ use Rattle.drive_buckets.proofs.Driving.{made, sent, no_epoch}
 use Rattle.drive_buckets.proofs.cases.dates.Goals as goal
 
 pub shape_of-e-in-10 : goal.shape_of-e-in-10
-shape_of-e-in-10 c = c.set_entry_epoch.auto.1.1.0
+shape_of-e-in-10 c = c.set_entry_epoch.auto.epochs
 
 pub returns-in-10 : goal.returns-in-10
 returns-in-10 c =

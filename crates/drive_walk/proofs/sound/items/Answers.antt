@@ -38,7 +38,7 @@ onward-stand-requires c = linked _ _ _ c.requires.0
 
 pub loop-left-preserved : goal.loop-left-preserved
 loop-left-preserved c =
-    more _ _ _ _ _ _ _ _ _ _ _ (sym c.slot-1.given.1 ∙ c.reached.ensures) _ _ c.item-end.ensures _ c.onward-stand.ensures (omega arith) c.requires.0 c.item-end.auto.0 c.loop-left.invariant
+    more _ _ _ _ _ _ _ _ _ _ _ (sym c.slot-1.given.1 ∙ c.reached.ensures) _ _ c.item-end.ensures _ c.onward-stand.ensures (omega arith) c.requires.0 c.item-end.auto.out c.loop-left.invariant
 
 pub returns : goal.returns
 returns c = ended _ _ _ _ _ _ _ _ _ _ c.loop-left.invariant (λ ys h fit. no_room ys (omega arith))

@@ -12,11 +12,11 @@ returns-in-Refused c =
 
 pub items-end-requires : goal.items-end-requires
 items-end-requires c =
-    let w = found _ _ _ _ _ _ _ _ _ _ _ _ c.first-first.ensures _ c.reached.ensures c.in_default.keys2 in (w.listable, w.placed, omega (arith, w.limited, c.number-next.ensures.short, c.number-next.auto.0, c.requires))
+    let w = found _ _ _ _ _ _ _ _ _ _ _ _ c.first-first.ensures _ c.reached.ensures c.in_default.keys2 in (w.listable, w.placed, omega (arith, w.limited, c.number-next.ensures.short, c.number-next.auto.out, c.requires))
 
 pub put-requires : goal.put-requires
 put-requires c =
-    let w = found _ _ _ _ _ _ _ _ _ _ _ _ c.first-first.ensures _ c.reached.ensures c.in_default.keys2 in omega (arith, w.limited, c.items-end.ensures.room, c.number-next.ensures.short, c.number-next.auto.0, c.items-end.auto.1.1.1.1.0, c.requires)
+    let w = found _ _ _ _ _ _ _ _ _ _ _ _ c.first-first.ensures _ c.reached.ensures c.in_default.keys2 in omega (arith, w.limited, c.items-end.ensures.room, c.number-next.ensures.short, c.number-next.auto.out, c.items-end.auto.out, c.requires)
 
 pub returns : goal.returns
 returns c =

@@ -18,7 +18,7 @@ pub loop-turns-smaller : goal.loop-turns-smaller
 loop-turns-smaller c = let some = c.loop-turns-test.true in omega arith
 
 pub loop-turns-preserved : goal.loop-turns-preserved
-loop-turns-preserved c = (c.case-done.auto.0 ∙ c.loop-turns.invariant.0, c.case-done.auto.1.0 ∙ c.loop-turns.invariant.1)
+loop-turns-preserved c = (c.case-done.auto.input ∙ c.loop-turns.invariant.0, c.case-done.auto.out ∙ c.loop-turns.invariant.1)
 
 pub shape_of-input-else-more : goal.shape_of-input-else-more
 shape_of-input-else-more c = c.loop-turns.invariant.0

@@ -47,7 +47,7 @@ loop-next-smaller c =
 
 pub loop-next-preserved : goal.loop-next-preserved
 loop-next-preserved c =
-    let begun = c.loop-next.invariant.begun in let test = c.loop-next-test.true in let all = c.requires.1 in feeding_more _ _ _ _ _ _ _ _ _ _ c.loop-next.invariant c.requires.0 (omega arith) c.requires.1 _ _ _ refl c.number.ensures c.number-value.ensures _ _ _ _ c.step-stepped.ensures (record { keys = c.step-stepped.auto.0; freqs = c.step-stepped.auto.1.0; epochs = c.step-stepped.auto.1.1.0; prevs = c.step-stepped.auto.1.1.1.0; nexts = c.step-stepped.auto.1.1.1.1.0; arena = c.step-stepped.auto.1.1.1.1.1.0; index = c.step-stepped.auto.1.1.1.1.1.1.0; buckets = c.step-stepped.auto.1.1.1.1.1.1.1.0; spares = c.step-stepped.auto.1.1.1.1.1.1.1.1.0; values = c.step-stepped.auto.1.1.1.1.1.1.1.1.1.0 }) c.step-stepped.auto.1.1.1.1.1.1.1.1.1.1.1.1.1.1.0
+    let begun = c.loop-next.invariant.begun in let test = c.loop-next-test.true in let all = c.requires.1 in feeding_more _ _ _ _ _ _ _ _ _ _ c.loop-next.invariant c.requires.0 (omega arith) c.requires.1 _ _ _ refl c.number.ensures c.number-value.ensures _ _ _ _ c.step-stepped.ensures (record { keys = c.step-stepped.auto.keys; freqs = c.step-stepped.auto.freqs; epochs = c.step-stepped.auto.epochs; prevs = c.step-stepped.auto.prevs; nexts = c.step-stepped.auto.nexts; arena = c.step-stepped.auto.arena; index = c.step-stepped.auto.index; buckets = c.step-stepped.auto.buckets; spares = c.step-stepped.auto.spares; values = c.step-stepped.auto.values }) c.step-stepped.auto.out
 
 pub shape_of-keys : goal.shape_of-keys
 shape_of-keys c = c.loop-next.invariant.sizes.keys

@@ -38,7 +38,7 @@ pub afresh-requires : goal.afresh-requires
 afresh-requires c = (start_sizes _ c.requires.0, c.requires.1)
 
 pub shape_of-out : goal.shape_of-out
-shape_of-out c = c.afresh.auto.1.1.1.1.1.1.1.1.1.1.1.1.0
+shape_of-out c = c.afresh.auto.out
 
 pub returns : goal.returns
 returns c = c.afresh.ensures

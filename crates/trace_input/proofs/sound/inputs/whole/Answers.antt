@@ -15,7 +15,7 @@ start-requires c =
 
 pub returns-in-Stops : goal.returns-in-Stops
 returns-in-Stops c =
-    stops_whole _ _ _ _ c.header-begun.ensures _ c.begun-1.given.1 _ (omega (arith, c.requires.1, c.write.auto.0)) c.write.ensures
+    stops_whole _ _ _ _ c.header-begun.ensures _ c.begun-1.given.1 _ (omega (arith, c.requires.1, c.write.auto.out)) c.write.ensures
 
 pub returns-in-Begins : goal.returns-in-Begins
 returns-in-Begins c = records_whole _ _ _ _ c.header-begun.ensures _ c.begun-in-Begins-1.given.1 c.requires.0 c.start.ensures
