@@ -90,6 +90,7 @@ some_lowest [] r d = absurd (d refl)
 some_lowest (l ∷ ls) r d = go l.entries r.2
   where
     go : (es : List Entry) → NonEmpty es → (y : Item) × (tail l.frequency es ≡ some y) × (y.frequency ≡ l.frequency)
+    go [] n = elim n [ ]
     go (e ∷ es) n = tail_some l.frequency e es
 
 module _ (t : Tables) (s : State) where

@@ -62,6 +62,7 @@ module _ (t : Tabs) (s : Buckets) (ls : List Level) (h : Held t s ls) where
 
 -- where a member stands
 pub member_at : (x : ℕ) (ls : List Level) → In x (members ls) → (us : List Level) × (f : ℕ) × (xs : List ℕ) × (ys : List ℕ) × (vs : List Level) × (ls ≡ us ++ level f (xs ++ x ∷ ys) ∷ vs)
+member_at x [] i = elim i [ ]
 member_at x (l ∷ ls) i =
     ⊎_elim (λ j. let k = in_split x l.slots j in ([], l.freq, k.before, k.after, ls, λ i. level l.freq (k.is i) ∷ ls))
     (λ j. let r = member_at x ls j in (l ∷ r.0, r.1, r.2, r.3, r.4, ap (λ (k : List Level). l ∷ k) r.5)) (in_either x l.slots (members ls) i)

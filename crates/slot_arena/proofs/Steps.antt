@@ -91,9 +91,11 @@ released_behind t o s inside = record { size = length-set (set t s NONE) o.last 
         record {
           limit = simp length-set h.limit;
           chain =
-              rw (length-set t₁ o.last s, h.last)
+              let P : ℕ → ℕ → Type 0 = λ size last. Chain size (cells (set t₁ last s)) o.first (x ∷ (xs ++ s ∷ [])) in
+              subst (λ size. P size o.last) (sym (length-set t₁ o.last s))
+              (subst (P (length t₁)) (sym h.last)
               (chain_on t₁ s o.first x xs (lt-length-set t s NONE u.0) (get_or-set_same t s NONE 0 u.0) (holds_distinct t o (x ∷ xs) h) w
-              (chain_set_sized t s NONE o.first (x ∷ xs) w h.chain));
+              (chain_set_sized t s NONE o.first (x ∷ xs) w h.chain)));
           last = sym (final_append x xs (s ∷ []));
           others = λ k l v.
               let a = all_left (λ y. y ≢ k) (x ∷ xs) (s ∷ []) v in

@@ -5,9 +5,8 @@ use Rattle.lists.proofs.Tests.{said_no}
 use Rattle.bucket_table.proofs.Checks as laws
 use Rattle.bucket_table.proofs.walk.Goals as goal
 
--- record-ok-requires : tie.Need-record-ok-requires invariant-loop decreases-loop
-
-record-ok-requires c κs = c.before.before.before.before.before.requires
+pub record_ok-requires : goal.record_ok-requires
+record_ok-requires c = c.requires
 
 pub loop-number-init : goal.loop-number-init
 loop-number-init c = laws.climb_start _ _ _ _
@@ -17,17 +16,17 @@ returns-then-left-eq0 c = laws.walk_short _ _ _ _ _ _ _ _ c.loop-number.invarian
 
 pub returns-then-not-record_ok : goal.returns-then-not-record_ok
 returns-then-not-record_ok c =
-    laws.walk_bad _ _ _ _ _ _ _ _ c.loop-number.invariant c.loop-number-test.true (said_no _ c.record_ok.ensures (not-true _ c.if-not-record_ok.true-raw))
+    laws.walk_bad _ _ _ _ _ _ _ _ c.loop-number.invariant c.loop-number-test.true (said_no _ c.record_ok.ensures c.if-not-record_ok.true)
 
 pub frequency-f-requires : goal.frequency-f-requires
-frequency-f-requires c = laws.used_in_lem _ _ _ c.requires (c.record_ok.ensures.0 (not-false _ c.if-not-record_ok.false-raw)).used
+frequency-f-requires c = laws.used_in_lem _ _ _ c.requires (c.record_ok.ensures.0 c.if-not-record_ok.false).used
 
 pub above-number-requires : goal.above-number-requires
-above-number-requires c = laws.used_spot _ _ _ c.requires (c.record_ok.ensures.0 (not-false _ c.if-not-record_ok.false-raw)).used
+above-number-requires c = laws.used_spot _ _ _ c.requires (c.record_ok.ensures.0 c.if-not-record_ok.false).used
 
 pub loop-number-preserved : goal.loop-number-preserved
 loop-number-preserved c =
-    laws.climb_on _ _ _ _ _ _ _ _ c.loop-number.invariant c.requires (c.record_ok.ensures.0 (not-false _ c.if-not-record_ok.false-raw)) c.if-left-eq0.false _ _ c.frequency-f.ensures c.above-number.ensures
+    laws.climb_on _ _ _ _ _ _ _ _ c.loop-number.invariant c.requires (c.record_ok.ensures.0 c.if-not-record_ok.false) c.if-left-eq0.false _ _ c.frequency-f.ensures c.above-number.ensures
 
 pub returns-then-left-ne0 : goal.returns-then-left-ne0
 returns-then-left-ne0 c = laws.walk_left _ _ _ _ _ _ _ _ c.loop-number.invariant c.loop-number-test.false c.if-left-ne0.true

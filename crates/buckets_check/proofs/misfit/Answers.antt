@@ -12,15 +12,15 @@ returns-then-capacity-gt-LIMIT c = (too_large, c.if-capacity-gt-LIMIT.true, refl
 
 pub returns-then-not-slot_tables_fit : goal.returns-then-not-slot_tables_fit
 returns-then-not-slot_tables_fit c =
-    (too_short, (c.if-capacity-gt-LIMIT.false, λ h. said_no _ c.slot_tables_fit.ensures (not-true _ c.if-not-slot_tables_fit.true-raw) (steps.fits_slots _ _ h)), refl)
+    (too_short, (c.if-capacity-gt-LIMIT.false, λ h. said_no _ c.slot_tables_fit.ensures c.if-not-slot_tables_fit.true (steps.fits_slots _ _ h)), refl)
 
 pub returns-then-not-part_tables_fit : goal.returns-then-not-part_tables_fit
 returns-then-not-part_tables_fit c =
-    (too_short, (c.if-capacity-gt-LIMIT.false, λ h. said_no _ c.part_tables_fit.ensures (not-true _ c.if-not-part_tables_fit.true-raw) (steps.fits_parts _ _ h)), refl)
+    (too_short, (c.if-capacity-gt-LIMIT.false, λ h. said_no _ c.part_tables_fit.ensures c.if-not-part_tables_fit.true (steps.fits_parts _ _ h)), refl)
 
 pub returns : goal.returns
 returns c =
     let sized =
-    steps.fitting _ _ _ _ _ _ _ _ _ _ (c.slot_tables_fit.ensures.0 (not-false _ c.if-not-slot_tables_fit.false-raw))
-    (c.part_tables_fit.ensures.0 (not-false _ c.if-not-part_tables_fit.false-raw)) in
+    steps.fitting _ _ _ _ _ _ _ _ _ _ (c.slot_tables_fit.ensures.0 c.if-not-slot_tables_fit.false)
+    (c.part_tables_fit.ensures.0 c.if-not-part_tables_fit.false) in
     (fitting, (c.if-capacity-gt-LIMIT.false, sized), refl)

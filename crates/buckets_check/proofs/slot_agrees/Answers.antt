@@ -14,9 +14,9 @@ returns-then-is_free c = agree_free _ _ _ _ _ _ _ (c.is_free.ensures.0 c.if-is_f
 pub returns-then-not-in_use : goal.returns-then-not-in_use
 returns-then-not-in_use c =
     let d = not_marked _ _ _ _ c.requires.0 _ c.requires.1 _ c.is_free.ensures c.if-is_free.false in
-    says_no _ (λ h. said_no _ c.in_use.ensures (not-true _ c.if-not-in_use.true-raw) (h.bound d).used)
+    says_no _ (λ h. said_no _ c.in_use.ensures c.if-not-in_use.true (h.bound d).used)
 
 pub returns : goal.returns
 returns c =
     let d = not_marked _ _ _ _ c.requires.0 _ c.requires.1 _ c.is_free.ensures c.if-is_free.false in
-    agree_bound _ _ _ _ _ _ _ d (c.in_use.ensures.0 (not-false _ c.if-not-in_use.false-raw)) (c.has.ensures c.args.keys.now c.requires.0.index_size)
+    agree_bound _ _ _ _ _ _ _ d (c.in_use.ensures.0 c.if-not-in_use.false) (c.has.ensures c.args.keys.now c.requires.0.index_size)

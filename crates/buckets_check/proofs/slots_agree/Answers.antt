@@ -18,11 +18,11 @@ slot_agrees-requires c = (c.requires, omega arith)
 
 pub returns-then-not-slot_agrees : goal.returns-then-not-slot_agrees
 returns-then-not-slot_agrees c =
-    says_no _ (λ h. said_no _ c.slot_agrees.ensures (not-true _ c.if-not-slot_agrees.true-raw) (h _ (omega arith)))
+    says_no _ (λ h. said_no _ c.slot_agrees.ensures c.if-not-slot_agrees.true (h _ (omega arith)))
 
 pub loop-slot-preserved : goal.loop-slot-preserved
 loop-slot-preserved c =
-    (omega arith, below_more _ _ c.loop-slot.invariant.1 (c.slot_agrees.ensures.0 (not-false _ c.if-not-slot_agrees.false-raw)))
+    (omega arith, below_more _ _ c.loop-slot.invariant.1 (c.slot_agrees.ensures.0 c.if-not-slot_agrees.false))
 
 pub returns : goal.returns
 returns c = (λ _ k l. c.loop-slot.invariant.1 k (omega arith), λ _. refl)

@@ -10,12 +10,12 @@ returns-then-values-state c = laws.other_checks _ _ _ c.args.state c.if-values-s
 
 pub returns-then-not-is_done : goal.returns-then-not-is_done
 returns-then-not-is_done c =
-    laws.below_refuses _ _ c.args.state c.if-values-state.false _ _ c.refusal-why.ensures c.is_done.ensures (not-true _ c.if-not-is_done.true-raw)
+    laws.below_refuses _ _ c.args.state c.if-values-state.false _ _ c.refusal-why.ensures c.is_done.ensures c.if-not-is_done.true
 
 pub returns-then-not-values_allowed : goal.returns-then-not-values_allowed
 returns-then-not-values_allowed c =
-    laws.values_refuse _ _ c.args.state c.if-values-state.false _ _ c.refusal-why.ensures c.is_done.ensures (not-false _ c.if-not-is_done.false-raw) _ c.values_allowed.ensures (not-true _ c.if-not-values_allowed.true-raw) _ refl
+    laws.values_refuse _ _ c.args.state c.if-values-state.false _ _ c.refusal-why.ensures c.is_done.ensures c.if-not-is_done.false _ c.values_allowed.ensures c.if-not-values_allowed.true _ refl
 
 pub returns : goal.returns
 returns c =
-    laws.values_hold _ _ c.args.state c.if-values-state.false _ _ c.refusal-why.ensures c.is_done.ensures (not-false _ c.if-not-is_done.false-raw) _ c.values_allowed.ensures (not-false _ c.if-not-values_allowed.false-raw) _ refl
+    laws.values_hold _ _ c.args.state c.if-values-state.false _ _ c.refusal-why.ensures c.is_done.ensures c.if-not-is_done.false _ c.values_allowed.ensures c.if-not-values_allowed.false _ refl

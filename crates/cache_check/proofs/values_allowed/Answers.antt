@@ -15,11 +15,11 @@ loop-slot-init c = (omega arith, below_none _)
 
 pub returns-then-not-value_allowed : goal.returns-then-not-value_allowed
 returns-then-not-value_allowed c =
-    says_no _ (λ h. said_no _ c.value_allowed.ensures (not-true _ c.if-not-value_allowed.true-raw) (h _ (omega arith)))
+    says_no _ (λ h. said_no _ c.value_allowed.ensures c.if-not-value_allowed.true (h _ (omega arith)))
 
 pub loop-slot-preserved : goal.loop-slot-preserved
 loop-slot-preserved c =
-    (omega arith, below_more _ _ c.loop-slot.invariant.1 (c.value_allowed.ensures.0 (not-false _ c.if-not-value_allowed.false-raw)))
+    (omega arith, below_more _ _ c.loop-slot.invariant.1 (c.value_allowed.ensures.0 c.if-not-value_allowed.false))
 
 pub returns : goal.returns
 returns c = (λ _ k l. c.loop-slot.invariant.1 k (omega arith), λ _. refl)

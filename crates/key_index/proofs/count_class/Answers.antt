@@ -13,6 +13,7 @@ use Rattle.lists.proofs.Tests.{neither}
 use Rattle.lists.proofs.Members.{final_append}
 use Rattle.key_index.proofs.Check.{Meeting, meet_none, meet_more, meet_follows, meet_listed, meet_fault}
 use Rattle.key_index.proofs.count_class.Goals as goal
+use Rattle.key_index.proofs.count_class.Goals.{then-loop-at-test+else-steps-capacity, else-loop-at-test}
 
 pub loop-at-init : goal.loop-at-init
 loop-at-init c = (refl, omega arith, ([], refl, refl, meet_none _ _ _))
@@ -23,7 +24,7 @@ returns-then-not-follows c =
     let us = inv.2.0 in
     let pre = c.requires in
     λ ss k.
-    neither _ (c.follows.ensures.1 (rw (sym inv.2.2) (meet_follows _ _ _ us _ pre.0 inv.2.3 c.loop-at-test.true ss k))) (not-true _ c.if-not-follows.true-raw)
+    neither _ (c.follows.ensures.1 (rw (sym inv.2.2) (meet_follows _ _ _ us _ pre.0 inv.2.3 c.loop-at-test.true ss k))) c.if-not-follows.true
 
 pub loop-at-smaller : goal.loop-at-smaller
 loop-at-smaller c = omega (arith, ltb-true)
@@ -40,7 +41,7 @@ loop-at-preserved c =
         us ++ at ∷ [],
         length-append us (at ∷ []) ∙ omega (arith, inv.2.1),
         final_append NONE us (at ∷ []),
-        meet_more _ _ _ us at pre.0 inv.2.3 c.loop-at-test.true (rw inv.2.2 (c.follows.ensures.0 (not-false _ c.if-not-follows.false-raw))),
+        meet_more _ _ _ us at pre.0 inv.2.3 c.loop-at-test.true (rw inv.2.2 (c.follows.ensures.0 c.if-not-follows.false)),
       ),
     )
 
@@ -55,4 +56,9 @@ returns c =
     let inv = c.loop-at.invariant in
     let pre = c.requires in
     meet_fault _ _ _ inv.2.0 _ pre.0 inv.2.3
-    (λ b. ⊎_elim (λ w. omega (arith, inv.2.1, ltb-false)) (λ w. omega (arith, inv.2.1)) c.loop-at-test.branch) c.if-at-eq-NONE.false
+    (λ b.
+    elim c.loop-at-test.branch [
+      then-loop-at-test+else-steps-capacity w ↦ omega (arith, inv.2.1)
+    | else-loop-at-test w ↦ omega (arith, inv.2.1)
+    ])
+    c.if-at-eq-NONE.false

@@ -10,12 +10,6 @@ use Rattle.key_index.specs.Check.{CountsClass, Gathered}
 use Rattle.key_index.proofs.Check.{gather_none, gather_more, listed_length}
 use Rattle.key_index.proofs.count_classes.Goals as goal
 
--- what was met in class c
-met : (c : tie.After-known-told invariant-loop decreases-loop)
-    → CountsClass c.before.before.before.before.before.before.before.before.args.index.now c.before.before.before.before.before.before.before.before.args.keys.now c.before.before.before.before.before.loop.c (Slots c.before.met.given.0.0)
-met c =
-    subst (CountsClass c.before.before.before.before.before.before.before.before.args.index.now c.before.before.before.before.before.before.before.before.args.keys.now c.before.before.before.before.before.loop.c) c.before.met.given.1 c.before.before.before.count-class.ensures
-
 pub loop-c-init : goal.loop-c-init
 loop-c-init c = (omega arith, omega arith, ([], refl, gather_none _ _))
 
@@ -23,14 +17,14 @@ pub returns-in_default : goal.returns-in_default
 returns-in_default c =
     λ sound.
     let r = sound.chains c.loop-c.c c.loop-c-test.true in
-    subst (CountsClass c.args.index.now c.args.keys.now c.loop-c.c) c.enum_told-1.given.1 c.count_class-met.ensures r.0 r.1
+    c.in_default.ensures r.0 r.1
 
 pub overflow_add-n : goal.overflow_add-n
-overflow_add-n c = let r = met c in omega (arith, r.2, listed_length _ _ _ r.0 c.requires.0 r.1, c.requires.0)
+overflow_add-n c = let r = c.in-Slots.ensures in omega (arith, r.2, listed_length _ _ _ r.0 c.requires.0 r.1, c.requires.0)
 
 pub loop-c-preserved : goal.loop-c-preserved
 loop-c-preserved c =
-    let r = met c in
+    let r = c.in-Slots.ensures in
     let inv = c.loop-c.invariant in
     let pre = c.requires in (
       omega arith,

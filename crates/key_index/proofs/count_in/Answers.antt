@@ -12,6 +12,7 @@ use Rattle.lists.proofs.Pigeonhole.{count_more}
 use Rattle.key_index.specs.Index.{OUT, link_of}
 use Rattle.key_index.specs.Check.{marked}
 use Rattle.key_index.proofs.count_in.Goals as goal
+use Rattle.key_index.proofs.count_in.Goals.{then-index-capacity-ne-OUT, else-index-capacity-ne-OUT}
 
 pub loop-i-init : goal.loop-i-init
 loop-i-init c = (refl, omega arith, omega arith, refl)
@@ -22,10 +23,12 @@ loop-i-preserved c =
     let keys = c.args.keys.now in
     let i = c.loop-i.i in
     let more = count_more (marked index keys) i in
-    ⊎_elim
-    (λ w. (refl, omega arith, omega arith, omega (arith, ap (λ b. mark (not b)) (ne_eqb (link_of index keys i) OUT w.0.taken))))
-    (λ w. (refl, omega arith, omega arith, omega (arith, ap (λ b. mark (not b)) (eq-eqb (link_of index keys i) OUT w.0.left))))
-    c.if-index-capacity-ne-OUT.branch
+    elim c.if-index-capacity-ne-OUT.branch [
+      then-index-capacity-ne-OUT w ↦
+          (refl, omega arith, omega arith, omega (arith, ap (λ b. mark (not b)) (ne_eqb (link_of index keys i) OUT w.if-index-capacity-ne-OUT.true)))
+    | else-index-capacity-ne-OUT w ↦
+          (refl, omega arith, omega arith, omega (arith, ap (λ b. mark (not b)) (eq-eqb (link_of index keys i) OUT w.if-index-capacity-ne-OUT.false)))
+    ]
 
 pub returns : goal.returns
 returns c =

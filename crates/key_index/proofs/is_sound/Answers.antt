@@ -15,10 +15,9 @@ returns-then-index-capacity c = says_no _ (λ s. c.if-index-capacity.true s.size
 
 pub returns-in-Slots : goal.returns-in-Slots
 returns-in-Slots c =
-    let r =
-    subst (CountsAll c.args.index.now c.args.keys.now) c.met-1.given.1 c.count_classes-met.ensures in
+    let r = c.in-Slots.ensures in
     counts _ _ r.0 c.if-capacity-gt-LIMIT.false c.if-index-capacity.false r.1 _ _ r.2 c.count_in.ensures
 
 pub returns-in-Fault : goal.returns-in-Fault
 returns-in-Fault c =
-    says_no _ (subst (CountsAll c.args.index.now c.args.keys.now) c.enum_told-1.given.1 c.count_classes-met.ensures)
+    says_no _ c.in-Fault.ensures

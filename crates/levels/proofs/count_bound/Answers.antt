@@ -10,6 +10,7 @@ use Rattle.lists.proofs.Pigeonhole.{count_le}
 use Rattle.levels.proofs.Checks as laws
 use Rattle.levels.specs.Check.{taken}
 use Rattle.levels.proofs.count_bound.Goals as goal
+use Rattle.levels.proofs.count_bound.Goals.{then-nexts-s, else-nexts-s}
 
 pub loop-s-init : goal.loop-s-init
 loop-s-init c = (omega arith, refl)
@@ -19,7 +20,14 @@ overflow_add-bound c = let e = c.loop-s.invariant.1 in omega (arith, count_le (t
 
 pub loop-s-preserved : goal.loop-s-preserved
 loop-s-preserved c =
-    (omega arith, ⊎_elim (λ w. w.1 ∙ ap (λ (k : ℕ). k + 1) c.loop-s.invariant.1 ∙ sym (laws.count_taken c.args.nexts.now c.loop-s.s w.0.taken)) (λ w. w.1 ∙ c.loop-s.invariant.1 ∙ sym (laws.count_free c.args.nexts.now c.loop-s.s w.0.left)) c.if-nexts-s.branch)
+    (
+      omega arith,
+      elim c.if-nexts-s.branch [
+        then-nexts-s w ↦
+            w.bound-is ∙ ap (λ (k : ℕ). k + 1) c.loop-s.invariant.1 ∙ sym (laws.count_taken c.args.nexts.now c.loop-s.s w.if-nexts-s.true)
+      | else-nexts-s w ↦ w.bound-is ∙ c.loop-s.invariant.1 ∙ sym (laws.count_free c.args.nexts.now c.loop-s.s w.if-nexts-s.false)
+      ],
+    )
 
 pub returns : goal.returns
 returns c =

@@ -17,11 +17,11 @@ pub slot_clean-requires : goal.slot_clean-requires
 slot_clean-requires c = (c.requires, omega arith)
 
 pub returns-then-not-slot_clean : goal.returns-then-not-slot_clean
-returns-then-not-slot_clean c = says_no _ (λ h. said_no _ c.slot_clean.ensures (not-true _ c.if-not-slot_clean.true-raw) (h _ (omega arith)))
+returns-then-not-slot_clean c = says_no _ (λ h. said_no _ c.slot_clean.ensures c.if-not-slot_clean.true (h _ (omega arith)))
 
 pub loop-s-preserved : goal.loop-s-preserved
 loop-s-preserved c =
-    (omega arith, below_more _ _ c.loop-s.invariant.1 (c.slot_clean.ensures.0 (not-false _ c.if-not-slot_clean.false-raw)))
+    (omega arith, below_more _ _ c.loop-s.invariant.1 (c.slot_clean.ensures.0 c.if-not-slot_clean.false))
 
 pub returns : goal.returns
 returns c = (λ _ k l. c.loop-s.invariant.1 k (omega arith), λ _. refl)

@@ -23,19 +23,19 @@ slot_ok-requires c = c.requires.0
 
 pub returns-then-not-slot_ok : goal.returns-then-not-slot_ok
 returns-then-not-slot_ok c =
-    laws.list_bad _ _ _ _ _ c.requires.0 _ _ _ _ c.loop-slot.invariant c.loop-slot-test.true _ c.frequency-frequency.ensures (said_no _ c.Slot-ok??.ensures (not-true _ c.if-not-slot_ok.true-raw))
+    laws.list_bad _ _ _ _ _ c.requires.0 _ _ _ _ c.loop-slot.invariant c.loop-slot-test.true _ c.frequency-frequency.ensures (said_no _ c.slot_ok.ensures c.if-not-slot_ok.true)
 
 pub offset_bounds-nexts-slot : goal.offset_bounds-nexts-slot
 offset_bounds-nexts-slot c =
-    let k = c.Slot-ok??.ensures.0 (not-false _ c.if-not-slot_ok.false-raw) in let l = k.slot in let z = c.requires.0.even.limit in omega arith
+    let k = c.slot_ok.ensures.0 c.if-not-slot_ok.false in let l = k.slot in let z = c.requires.0.even.limit in omega arith
 
 pub bounds-nexts-slot : goal.bounds-nexts-slot
 bounds-nexts-slot c =
-    let k = c.Slot-ok??.ensures.0 (not-false _ c.if-not-slot_ok.false-raw) in let l = k.slot in let z = c.requires.0.even.nexts_size in omega arith
+    let k = c.slot_ok.ensures.0 c.if-not-slot_ok.false in let l = k.slot in let z = c.requires.0.even.nexts_size in omega arith
 
 pub loop-slot-preserved : goal.loop-slot-preserved
 loop-slot-preserved c =
-    laws.along_on _ _ _ _ _ c.requires.0 _ _ _ _ c.loop-slot.invariant _ c.frequency-frequency.ensures (c.Slot-ok??.ensures.0 (not-false _ c.if-not-slot_ok.false-raw)) c.if-n-eq0.false
+    laws.along_on _ _ _ _ _ c.requires.0 _ _ _ _ c.loop-slot.invariant _ c.frequency-frequency.ensures (c.slot_ok.ensures.0 c.if-not-slot_ok.false) c.if-n-eq0.false
 
 pub returns-then-at-eq-NONE : goal.returns-then-at-eq-NONE
 returns-then-at-eq-NONE c =
