@@ -8,7 +8,7 @@ use Rattle.drive_lines.proofs.Spelling.{asked_told}
 use Rattle.drive_lines.proofs.asked.Goals as goal
 
 pub returns-in-Is : goal.returns-in-Is
-returns-in-Is c = asked_told c.answer-1.given.0.0 ∙ sym (ap (λ (a : Asked). reply_text (asked_reply a)) c.answer-1.given.1)
+returns-in-Is c = asked_told c.in-Is.yes ∙ sym (ap (λ (a : Asked). reply_text (asked_reply a)) c.in-Is.is)
 
 pub returns-in-Refused : goal.returns-in-Refused
-returns-in-Refused c = sym (ap (λ (a : Asked). reply_text (asked_reply a)) c.answer-in-Refused-1.given.1)
+returns-in-Refused c = sym (ap (λ (a : Asked). reply_text (asked_reply a)) c.in-Refused.is)

@@ -7,7 +7,7 @@ use Rattle.drive_lines.specs.Lines.{reply_text}
 use Rattle.drive_lines.proofs.level.Goals as goal
 
 pub returns-in-At : goal.returns-in-At
-returns-in-At c = sym (ap (λ (a : Level). reply_text (level_reply a)) c.answer-1.given.1)
+returns-in-At c = sym (ap (λ (a : Level). reply_text (level_reply a)) c.in-At.is)
 
 pub returns-in-Refused : goal.returns-in-Refused
-returns-in-Refused c = sym (ap (λ (a : Level). reply_text (level_reply a)) c.answer-in-Refused-1.given.1)
+returns-in-Refused c = sym (ap (λ (a : Level). reply_text (level_reply a)) c.in-Refused.is)

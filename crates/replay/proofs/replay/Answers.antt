@@ -5,4 +5,4 @@ use Rattle.trace.proofs.Beginning.{begins_fits}
 use Rattle.replay.proofs.replay.Goals as goal
 
 pub start-requires : goal.start-requires
-start-requires c = (begins_fits _ _ (sym c.header-begun.ensures ∙ c.begun-in-Begins-1.given.1)).1
+start-requires c = (begins_fits _ _ (sym c.header-begun.ensures ∙ c.in-Begins.is)).1

@@ -18,10 +18,10 @@ insert-stored-requires c = laws.batching_sound _ _ _ _ _ _ _ _ c.loop-i.invarian
 
 pub overflow_add-done : goal.overflow_add-done
 overflow_add-done c =
-    let few = c.loop-i.invariant.few in let one = laws.once (plain_reply c.insert-stored.result.answer) in let is = c.done_once-once.ensures in let left = c.loop-i-test.true in let size = c.well-formed??.1.1.1.1.1.1.1.1.1.1.0.0 in search rules
+    let few = c.loop-i.invariant.few in let one = laws.once (plain_reply c.insert-stored.result.answer) in let is = c.done_once-once.ensures in let left = c.loop-i-test.true in let size = c.well_formed.1.1.1.1.1.1.1.1.1.1.0.0 in search rules
 
 pub overflow_add-i : goal.overflow_add-i
-overflow_add-i c = let left = c.loop-i-test.true in let size = c.well-formed??.1.1.1.1.1.1.1.1.1.1.0.0 in search rules
+overflow_add-i c = let left = c.loop-i-test.true in let size = c.well_formed.1.1.1.1.1.1.1.1.1.1.0.0 in search rules
 
 pub loop-i-smaller : goal.loop-i-smaller
 loop-i-smaller c = omega arith

@@ -18,10 +18,10 @@ remove-gone-requires c = laws.batching_sound _ _ _ _ _ _ _ _ c.loop-i.invariant 
 
 pub overflow_add-done : goal.overflow_add-done
 overflow_add-done c =
-    let few = c.loop-i.invariant.few in let one = laws.once (level_reply c.remove-gone.result.answer) in let is = c.leveled_once-once.ensures in let left = c.loop-i-test.true in let size = c.well-formed??.1.1.1.1.1.1.1.1.1.1.0.0 in search rules
+    let few = c.loop-i.invariant.few in let one = laws.once (level_reply c.remove-gone.result.answer) in let is = c.leveled_once-once.ensures in let left = c.loop-i-test.true in let size = c.well_formed.1.1.1.1.1.1.1.1.1.1.0.0 in search rules
 
 pub overflow_add-i : goal.overflow_add-i
-overflow_add-i c = let left = c.loop-i-test.true in let size = c.well-formed??.1.1.1.1.1.1.1.1.1.1.0.0 in search rules
+overflow_add-i c = let left = c.loop-i-test.true in let size = c.well_formed.1.1.1.1.1.1.1.1.1.1.0.0 in search rules
 
 pub loop-i-smaller : goal.loop-i-smaller
 loop-i-smaller c = omega arith

@@ -19,10 +19,10 @@ touch-hit-requires c = let w = c.requires in (w.0, laws.batching_sound _ _ _ _ _
 
 pub overflow_add-done : goal.overflow_add-done
 overflow_add-done c =
-    let few = (c.loop-at.invariant c.requires.0).few in let one = laws.once (level_reply c.touch-hit.result.answer) in let is = c.leveled_once-once.ensures in let left = c.loop-at-test.true in let size = c.well-formed??.1.1.1.1.1.1.1.1.1.0.0 in search rules
+    let few = (c.loop-at.invariant c.requires.0).few in let one = laws.once (level_reply c.touch-hit.result.answer) in let is = c.leveled_once-once.ensures in let left = c.loop-at-test.true in let size = c.well_formed.1.1.1.1.1.1.1.1.1.0.0 in search rules
 
 pub overflow_add-at : goal.overflow_add-at
-overflow_add-at c = let left = c.loop-at-test.true in let size = c.well-formed??.1.1.1.1.1.1.1.1.1.0.0 in search rules
+overflow_add-at c = let left = c.loop-at-test.true in let size = c.well_formed.1.1.1.1.1.1.1.1.1.0.0 in search rules
 
 pub loop-at-smaller : goal.loop-at-smaller
 loop-at-smaller c = omega arith

@@ -7,15 +7,15 @@ use Rattle.buckets_calls.proofs.sound.insert.Goals as goal
 
 pub returns-in-At : goal.returns-in-At
 returns-in-At c =
-    doing.insert_present _ _ _ _ (subst (Finds c.args.index.now c.args.keys.now c.args.key.0) c.enum_told-1.given.1 c.find.ensures)
+    doing.insert_present _ _ _ _ (subst (Finds c.args.index.now c.args.keys.now c.args.key.0) c.in-At.is c.find.ensures)
 
 pub returns-then-state-eq-NONE : goal.returns-then-state-eq-NONE
 returns-then-state-eq-NONE c =
-    doing.insert_full_lem _ _ _ (subst (Finds c.args.index.now c.args.keys.now c.args.key.0) c.enum_told-in_default-1.given.1 c.find.ensures) c.if-state-eq-NONE.true
+    doing.insert_full_lem _ _ _ (subst (Finds c.args.index.now c.args.keys.now c.args.key.0) c.in_default.is c.find.ensures) c.if-state-eq-NONE.true
 
 pub bind-placed-requires : goal.bind-placed-requires
 bind-placed-requires c =
-    doing.insert_room _ _ _ (subst (Finds c.args.index.now c.args.keys.now c.args.key.0) c.enum_told-in_default-1.given.1 c.find.ensures) c.requires c.if-state-eq-NONE.false
+    doing.insert_room _ _ _ (subst (Finds c.args.index.now c.args.keys.now c.args.key.0) c.in_default.is c.find.ensures) c.requires c.if-state-eq-NONE.false
 
 pub shape_of-keys : goal.shape_of-keys
 shape_of-keys c = c.bind-placed.auto.keys
@@ -46,4 +46,4 @@ shape_of-spares c = c.bind-placed.auto.spares
 
 pub returns : goal.returns
 returns c =
-    doing.insert_done _ _ _ (subst (Finds c.args.index.now c.args.keys.now c.args.key.0) c.enum_told-in_default-1.given.1 c.find.ensures) c.if-state-eq-NONE.false _ _ c.bind-placed.ensures
+    doing.insert_done _ _ _ (subst (Finds c.args.index.now c.args.keys.now c.args.key.0) c.in_default.is c.find.ensures) c.if-state-eq-NONE.false _ _ c.bind-placed.ensures

@@ -8,15 +8,15 @@ use Rattle.buckets_calls.proofs.sound.remove.Goals as goal
 
 pub offset_bounds-freqs-slot : goal.offset_bounds-freqs-slot
 offset_bounds-freqs-slot c =
-    let limit = asked.slot_limit _ _ _ (doing.found_bound _ _ _ _ c.requires (subst (Finds c.args.index.now c.args.keys.now c.args.key.0) c.slot-1.given.1 c.find.ensures)) in search rules
+    let limit = asked.slot_limit _ _ _ (doing.found_bound _ _ _ _ c.requires (subst (Finds c.args.index.now c.args.keys.now c.args.key.0) c.in-At.is c.find.ensures)) in search rules
 
 pub bounds-freqs-slot : goal.bounds-freqs-slot
 bounds-freqs-slot c =
-    (asked.slot_sized _ _ _ (doing.found_bound _ _ _ _ c.requires (subst (Finds c.args.index.now c.args.keys.now c.args.key.0) c.slot-1.given.1 c.find.ensures))).3
+    (asked.slot_sized _ _ _ (doing.found_bound _ _ _ _ c.requires (subst (Finds c.args.index.now c.args.keys.now c.args.key.0) c.in-At.is c.find.ensures))).3
 
 pub let_go-after-requires : goal.let_go-after-requires
 let_go-after-requires c =
-    doing.found_bound _ _ _ _ c.requires (subst (Finds c.args.index.now c.args.keys.now c.args.key.0) c.slot-1.given.1 c.find.ensures)
+    doing.found_bound _ _ _ _ c.requires (subst (Finds c.args.index.now c.args.keys.now c.args.key.0) c.in-At.is c.find.ensures)
 
 pub shape_of-keys-in-At : goal.shape_of-keys-in-At
 shape_of-keys-in-At c = c.let_go-after.auto.keys
@@ -47,8 +47,8 @@ shape_of-spares c = c.let_go-after.auto.spares
 
 pub returns-in-At : goal.returns-in-At
 returns-in-At c =
-    doing.remove_done _ _ _ _ _ (subst (Finds c.args.index.now c.args.keys.now c.args.key.0) c.slot-1.given.1 c.find.ensures) refl _ _ c.let_go-after.ensures
+    doing.remove_done _ _ _ _ _ (subst (Finds c.args.index.now c.args.keys.now c.args.key.0) c.in-At.is c.find.ensures) refl _ _ c.let_go-after.ensures
 
 pub returns-in-Nothing : goal.returns-in-Nothing
 returns-in-Nothing c =
-    doing.remove_absent _ _ _ (subst (Finds c.args.index.now c.args.keys.now c.args.key.0) c.enum_told-1.given.1 c.find.ensures)
+    doing.remove_absent _ _ _ (subst (Finds c.args.index.now c.args.keys.now c.args.key.0) c.in-Nothing.is c.find.ensures)

@@ -9,15 +9,15 @@ use Rattle.cache_calls.proofs.sound.reset_frequency.Goals as goal
 
 pub offset_bounds-freqs-slot : goal.offset_bounds-freqs-slot
 offset_bounds-freqs-slot c =
-    let limit = asked.slot_limit _ _ _ (doing.found_bound _ _ _ _ c.requires.1 (subst (Finds c.args.index.now c.args.keys.now c.args.key.0) c.slot-1.given.1 c.find.ensures)) in search rules
+    let limit = asked.slot_limit _ _ _ (doing.found_bound _ _ _ _ c.requires.1 (subst (Finds c.args.index.now c.args.keys.now c.args.key.0) c.in-At.is c.find.ensures)) in search rules
 
 pub bounds-freqs-slot : goal.bounds-freqs-slot
 bounds-freqs-slot c =
-    (asked.slot_sized _ _ _ (doing.found_bound _ _ _ _ c.requires.1 (subst (Finds c.args.index.now c.args.keys.now c.args.key.0) c.slot-1.given.1 c.find.ensures))).3
+    (asked.slot_sized _ _ _ (doing.found_bound _ _ _ _ c.requires.1 (subst (Finds c.args.index.now c.args.keys.now c.args.key.0) c.in-At.is c.find.ensures))).3
 
 pub restart-after-requires : goal.restart-after-requires
 restart-after-requires c =
-    (c.args.keys.now, c.requires.0, c.args.index.now, doing.found_bound _ _ _ _ c.requires.1 (subst (Finds c.args.index.now c.args.keys.now c.args.key.0) c.slot-1.given.1 c.find.ensures))
+    (c.args.keys.now, c.requires.0, c.args.index.now, doing.found_bound _ _ _ _ c.requires.1 (subst (Finds c.args.index.now c.args.keys.now c.args.key.0) c.in-At.is c.find.ensures))
 
 pub shape_of-freqs : goal.shape_of-freqs
 shape_of-freqs c = c.restart-after.auto.freqs
@@ -36,8 +36,8 @@ shape_of-buckets c = c.restart-after.auto.buckets
 
 pub returns-in-At : goal.returns-in-At
 returns-in-At c =
-    λ a vs. caching.reset_hit _ vs _ _ _ (caching.sought_key _ _ _ _ (subst (Finds c.args.index.now c.args.keys.now c.args.key.0) c.slot-1.given.1 c.find.ensures)) _ _ _ _ _ _ _ c.restart-after.ensures
+    λ a vs. caching.reset_hit _ vs _ _ _ (caching.sought_key _ _ _ _ (subst (Finds c.args.index.now c.args.keys.now c.args.key.0) c.in-At.is c.find.ensures)) _ _ _ _ _ _ _ c.restart-after.ensures
 
 pub returns-in-Nothing : goal.returns-in-Nothing
 returns-in-Nothing c =
-    λ a vs. caching.reset_miss _ vs _ _ (caching.missed_key _ _ _ (subst (Finds c.args.index.now c.args.keys.now c.args.key.0) c.enum_told-1.given.1 c.find.ensures))
+    λ a vs. caching.reset_miss _ vs _ _ (caching.missed_key _ _ _ (subst (Finds c.args.index.now c.args.keys.now c.args.key.0) c.in-Nothing.is c.find.ensures))

@@ -11,27 +11,27 @@ use Rattle.cache_inserts.proofs.sound.insert.Goals as goal
 
 pub offset_bounds-values-slot : goal.offset_bounds-values-slot
 offset_bounds-values-slot c =
-    let below = (asking.value_sized _ _ _ _ (caching.sought_key _ _ _ _ (subst (Finds c.args.index.now c.args.keys.now c.args.key.0) c.slot-1.given.1 c.find.ensures)) _ c.requires).1 in search rules
+    let below = (asking.value_sized _ _ _ _ (caching.sought_key _ _ _ _ (subst (Finds c.args.index.now c.args.keys.now c.args.key.0) c.in-At.is c.find.ensures)) _ c.requires).1 in search rules
 
 pub bounds-values-slot : goal.bounds-values-slot
 bounds-values-slot c =
-    (asking.value_sized _ _ _ _ (caching.sought_key _ _ _ _ (subst (Finds c.args.index.now c.args.keys.now c.args.key.0) c.slot-1.given.1 c.find.ensures)) _ c.requires).0
+    (asking.value_sized _ _ _ _ (caching.sought_key _ _ _ _ (subst (Finds c.args.index.now c.args.keys.now c.args.key.0) c.in-At.is c.find.ensures)) _ c.requires).0
 
 pub offset_bounds-values-slot-in-At : goal.offset_bounds-values-slot-in-At
 offset_bounds-values-slot-in-At c =
-    let below = (asking.value_sized _ _ _ _ (caching.sought_key _ _ _ _ (subst (Finds c.args.index.now c.args.keys.now c.args.key.0) c.slot-1.given.1 c.find.ensures)) _ c.requires).1 in search rules
+    let below = (asking.value_sized _ _ _ _ (caching.sought_key _ _ _ _ (subst (Finds c.args.index.now c.args.keys.now c.args.key.0) c.in-At.is c.find.ensures)) _ c.requires).1 in search rules
 
 pub bounds-values-slot-in-At : goal.bounds-values-slot-in-At
 bounds-values-slot-in-At c =
-    (asking.value_sized _ _ _ _ (caching.sought_key _ _ _ _ (subst (Finds c.args.index.now c.args.keys.now c.args.key.0) c.slot-1.given.1 c.find.ensures)) _ c.requires).0
+    (asking.value_sized _ _ _ _ (caching.sought_key _ _ _ _ (subst (Finds c.args.index.now c.args.keys.now c.args.key.0) c.in-At.is c.find.ensures)) _ c.requires).0
 
 pub enter-entered-requires : goal.enter-entered-requires
 enter-entered-requires c =
-    record { sound = asking.base_sound _ _ c.requires; missed = caching.missed_key _ _ _ (subst (Finds c.args.index.now c.args.keys.now c.args.key.0) c.enum_told-1.given.1 c.find.ensures) }
+    record { sound = asking.base_sound _ _ c.requires; missed = caching.missed_key _ _ _ (subst (Finds c.args.index.now c.args.keys.now c.args.key.0) c.in-Nothing.is c.find.ensures) }
 
 pub returns-in-At : goal.returns-in-At
 returns-in-At c =
-    inserting.insert_old _ _ _ _ _ _ (caching.sought_key _ _ _ _ (subst (Finds c.args.index.now c.args.keys.now c.args.key.0) c.slot-1.given.1 c.find.ensures))
+    inserting.insert_old _ _ _ _ _ _ (caching.sought_key _ _ _ _ (subst (Finds c.args.index.now c.args.keys.now c.args.key.0) c.in-At.is c.find.ensures))
 
 pub shape_of-keys-in-Nothing : goal.shape_of-keys-in-Nothing
 shape_of-keys-in-Nothing c = c.enter-entered.auto.keys

@@ -4,19 +4,19 @@ use Rattle.drive_lines.proofs.Spelling.{alone_spelled, one_spelled, two_spelled,
 use Rattle.drive_lines.proofs.sound.write.Goals as goal
 
 pub returns-in-Alone : goal.returns-in-Alone
-returns-in-Alone c = alone_spelled _ _ _ _ _ _ _ c.number.ensures c.number-end.ensures _ _ c.told-1.given.1 c.put.ensures
+returns-in-Alone c = alone_spelled _ _ _ _ _ _ _ c.number.ensures c.number-end.ensures _ _ c.in-Alone.is c.put.ensures
 
 pub returns-in-One : goal.returns-in-One
 returns-in-One c =
-    one_spelled _ _ _ _ _ c.number-first.ensures _ _ _ c.spaced-end.ensures _ _ c.told-in-One-1.given.1 c.put-in-One.ensures
+    one_spelled _ _ _ _ _ c.number-first.ensures _ _ _ c.spaced-end.ensures _ _ c.in-One.is c.put-in-One.ensures
 
 pub returns-in-Two : goal.returns-in-Two
 returns-in-Two c =
-    two_spelled _ _ _ _ _ c.number-first-in-Two.ensures _ _ _ c.spaced-second.ensures _ _ _ c.spaced-end-in-Two.ensures _ _ c.told-in-Two-1.given.1 c.put-in-Two.ensures
+    two_spelled _ _ _ _ _ c.number-first-in-Two.ensures _ _ _ c.spaced-second.ensures _ _ _ c.spaced-end-in-Two.ensures _ _ c.in-Two.is c.put-in-Two.ensures
 
 pub returns-in-Stored : goal.returns-in-Stored
 returns-in-Stored c =
-    stored_spelled _ _ _ _ _ c.number-first-in-Stored.ensures _ _ c.put-next.ensures _ _ _ c.told-in-Stored-1.given.1 c.write.ensures
+    stored_spelled _ _ _ _ _ c.number-first-in-Stored.ensures _ _ c.put-next.ensures _ _ _ c.in-Stored.is c.write.ensures
 
 pub returns-in-Just : goal.returns-in-Just
-returns-in-Just c = just_spelled _ _ _ _ _ _ c.told-in-Just-1.given.1 c.write-in-Just.ensures
+returns-in-Just c = just_spelled _ _ _ _ _ _ c.in-Just.is c.write-in-Just.ensures

@@ -17,18 +17,18 @@ returns-in_default c =
 
 pub offset_bounds-k-slot : goal.offset_bounds-k-slot
 offset_bounds-k-slot c =
-    let below = c.loop-left.invariant.place _ (sym c.reached.ensures ∙ c.slot-1.given.1) in let small = (sizes _ _ _ c.requires.0).0 in omega arith
+    let below = c.loop-left.invariant.place _ (sym c.reached.ensures ∙ c.in-At.is) in let small = (sizes _ _ _ c.requires.0).0 in omega arith
 
 pub bounds-k-slot : goal.bounds-k-slot
-bounds-k-slot c = c.loop-left.invariant.place _ (sym c.reached.ensures ∙ c.slot-1.given.1)
+bounds-k-slot c = c.loop-left.invariant.place _ (sym c.reached.ensures ∙ c.in-At.is)
 
 pub offset_bounds-e-slot : goal.offset_bounds-e-slot
 offset_bounds-e-slot c =
-    let below = c.loop-left.invariant.place _ (sym c.reached.ensures ∙ c.slot-1.given.1) in let small = (sizes _ _ _ c.requires.0).0 in omega arith
+    let below = c.loop-left.invariant.place _ (sym c.reached.ensures ∙ c.in-At.is) in let small = (sizes _ _ _ c.requires.0).0 in omega arith
 
 pub bounds-e-slot : goal.bounds-e-slot
 bounds-e-slot c =
-    let below = c.loop-left.invariant.place _ (sym c.reached.ensures ∙ c.slot-1.given.1) in let same = (sizes _ _ _ c.requires.0).1 in omega arith
+    let below = c.loop-left.invariant.place _ (sym c.reached.ensures ∙ c.in-At.is) in let same = (sizes _ _ _ c.requires.0).1 in omega arith
 
 pub item-end-requires : goal.item-end-requires
 item-end-requires c = omega (arith, c.loop-left.invariant.size, c.loop-left.invariant.room, c.requires.2)
@@ -38,7 +38,7 @@ onward-stand-requires c = linked _ _ _ c.requires.0
 
 pub loop-left-preserved : goal.loop-left-preserved
 loop-left-preserved c =
-    more _ _ _ _ _ _ _ _ _ _ _ (sym c.slot-1.given.1 ∙ c.reached.ensures) _ _ c.item-end.ensures _ c.onward-stand.ensures (omega arith) c.requires.0 c.item-end.auto.out c.loop-left.invariant
+    more _ _ _ _ _ _ _ _ _ _ _ (sym c.in-At.is ∙ c.reached.ensures) _ _ c.item-end.ensures _ c.onward-stand.ensures (omega arith) c.requires.0 c.item-end.auto.out c.loop-left.invariant
 
 pub returns : goal.returns
 returns c = ended _ _ _ _ _ _ _ _ _ _ c.loop-left.invariant (λ ys h fit. no_room ys (omega arith))

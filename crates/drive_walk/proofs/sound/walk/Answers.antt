@@ -8,7 +8,7 @@ use Rattle.drive_walk.proofs.sound.walk.Goals as goal
 
 pub returns-in-Refused : goal.returns-in-Refused
 returns-in-Refused c =
-    refuses _ _ _ _ _ (ap reached_reply (sym c.reached.ensures ∙ c.why-1.given.1)) _ _ _ _ c.first-first.ensures c.write.ensures
+    refuses _ _ _ _ _ (ap reached_reply (sym c.reached.ensures ∙ c.in-Refused.is)) _ _ _ _ c.first-first.ensures c.write.ensures
 
 pub items-end-requires : goal.items-end-requires
 items-end-requires c =

@@ -5,10 +5,10 @@ use Rattle.frequency_buckets_walker.specs.Stands.{of_link}
 use Rattle.frequency_buckets_walker.proofs.plain.of_link.Goals as goal
 
 pub returns-in-At : goal.returns-in-At
-returns-in-At c = ap of_link (sym c.after-1.given.1)
+returns-in-At c = ap of_link (sym c.in-At.is)
 
 pub returns-in-NoMore : goal.returns-in-NoMore
-returns-in-NoMore c = ap of_link (sym c.enum_told-1.given.1)
+returns-in-NoMore c = ap of_link (sym c.in-NoMore.is)
 
 pub returns-in-Absent : goal.returns-in-Absent
-returns-in-Absent c = ap of_link (sym c.enum_told-in-Absent-1.given.1)
+returns-in-Absent c = ap of_link (sym c.in-Absent.is)

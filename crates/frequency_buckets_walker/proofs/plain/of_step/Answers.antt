@@ -5,7 +5,7 @@ use Rattle.frequency_buckets_walker.specs.Stands.{of_step}
 use Rattle.frequency_buckets_walker.proofs.plain.of_step.Goals as goal
 
 pub returns-in-Here : goal.returns-in-Here
-returns-in-Here c = ap of_step (sym c.step-1.given.1)
+returns-in-Here c = ap of_step (sym c.in-Here.is)
 
 pub returns-in-Refused : goal.returns-in-Refused
-returns-in-Refused c = ap of_step (sym c.step-in-Refused-1.given.1)
+returns-in-Refused c = ap of_step (sym c.in-Refused.is)

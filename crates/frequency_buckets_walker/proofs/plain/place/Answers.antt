@@ -5,7 +5,7 @@ use Rattle.frequency_buckets_walker.specs.Stands.{place_of}
 use Rattle.frequency_buckets_walker.proofs.plain.place.Goals as goal
 
 pub returns-in-NoMore : goal.returns-in-NoMore
-returns-in-NoMore c = ap place_of (sym c.enum_told-1.given.1)
+returns-in-NoMore c = ap place_of (sym c.in-NoMore.is)
 
 pub returns-in-Refused : goal.returns-in-Refused
-returns-in-Refused c = ap place_of (sym c.enum_told-in-Refused-1.given.1)
+returns-in-Refused c = ap place_of (sym c.in-Refused.is)

@@ -48,7 +48,7 @@ loop-s-preserved c =
 pub returns-else-keys-s : goal.returns-else-keys-s
 returns-else-keys-s c =
     let inv = c.loop-s.invariant in
-    place_end _ _ _ _ inv.2 c.requires.0 _ inv.1 (λ l. ltb-false _ _ c.if-keys-s.false-raw)
+    place_end _ _ _ _ inv.2 c.requires.0 _ inv.1 (λ l. c.if-keys-s.false)
 
 pub returns-after-loop-s : goal.returns-after-loop-s
 returns-after-loop-s c =

@@ -21,10 +21,10 @@ insert-entered-requires c = laws.batching_sound _ _ _ _ _ _ _ _ _ c.loop-i.invar
 
 pub overflow_add-done : goal.overflow_add-done
 overflow_add-done c =
-    let few = c.loop-i.invariant.few in let one = laws.bound_few (insertion_reply c.insert-entered.result.answer) in let is = c.bound_once-once.ensures in let left = c.loop-i-test.true in let size = c.well-formed??.1.1.1.1.1.1.1.1.1.1.1.0.0 in search rules
+    let few = c.loop-i.invariant.few in let one = laws.bound_few (insertion_reply c.insert-entered.result.answer) in let is = c.bound_once-once.ensures in let left = c.loop-i-test.true in let size = c.well_formed.1.1.1.1.1.1.1.1.1.1.1.0.0 in search rules
 
 pub overflow_add-i : goal.overflow_add-i
-overflow_add-i c = let left = c.loop-i-test.true in let size = c.well-formed??.1.1.1.1.1.1.1.1.1.1.1.0.0 in search rules
+overflow_add-i c = let left = c.loop-i-test.true in let size = c.well_formed.1.1.1.1.1.1.1.1.1.1.1.0.0 in search rules
 
 pub loop-i-smaller : goal.loop-i-smaller
 loop-i-smaller c = let left = c.loop-i-test.true in omega arith

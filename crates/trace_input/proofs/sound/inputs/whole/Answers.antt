@@ -7,15 +7,15 @@ use Rattle.trace_input.proofs.Wholes.{records_room, stops_whole, records_whole}
 use Rattle.trace_input.proofs.sound.inputs.whole.Goals as goal
 
 pub slice_bounds-start-count : goal.slice_bounds-start-count
-slice_bounds-start-count c = (begins_fits _ _ (sym c.header-begun.ensures ∙ c.begun-in-Begins-1.given.1)).0
+slice_bounds-start-count c = (begins_fits _ _ (sym c.header-begun.ensures ∙ c.in-Begins.is)).0
 
 pub start-requires : goal.start-requires
 start-requires c =
-    ((begins_fits _ _ (sym c.header-begun.ensures ∙ c.begun-in-Begins-1.given.1)).1, records_room c.args.input.now _ c.requires.1)
+    ((begins_fits _ _ (sym c.header-begun.ensures ∙ c.in-Begins.is)).1, records_room c.args.input.now _ c.requires.1)
 
 pub returns-in-Stops : goal.returns-in-Stops
 returns-in-Stops c =
-    stops_whole _ _ _ _ c.header-begun.ensures _ c.begun-1.given.1 _ (omega (arith, c.requires.1, c.write.auto.out)) c.write.ensures
+    stops_whole _ _ _ _ c.header-begun.ensures _ c.in-Stops.is _ (omega (arith, c.requires.1, c.write.auto.out)) c.write.ensures
 
 pub returns-in-Begins : goal.returns-in-Begins
-returns-in-Begins c = records_whole _ _ _ _ c.header-begun.ensures _ c.begun-in-Begins-1.given.1 c.requires.0 c.start.ensures
+returns-in-Begins c = records_whole _ _ _ _ c.header-begun.ensures _ c.in-Begins.is c.requires.0 c.start.ensures

@@ -5,7 +5,7 @@ use Rattle.trace_record.specs.Answers.{least_line}
 use Rattle.trace_record.proofs.sound.cases.of_least.Goals as goal
 
 pub returns-in-Is : goal.returns-in-Is
-returns-in-Is c = sym (ap (least_line c.args.word) c.answer-1.given.1)
+returns-in-Is c = sym (ap (least_line c.args.word) c.in-Is.is)
 
 pub returns-in-Refused : goal.returns-in-Refused
-returns-in-Refused c = sym (ap (least_line c.args.word) c.enum_told-1.given.1)
+returns-in-Refused c = sym (ap (least_line c.args.word) c.in-Refused.is)
