@@ -13,6 +13,13 @@ pub returns-then-slot-eq-NONE : goal.returns-then-slot-eq-NONE
 returns-then-slot-eq-NONE c =
     λ vs v. inserting.insert_full_lem _ vs _ _ v c.requires.unbound.missed c.requires.full (caching.missed_least _ _ _ (λ l h. c.lowest-slot.ensures.answer _ _ _ _ _ h.lists) c.if-slot-eq-NONE.true)
 
+pub offset_bounds-keys-slot : goal.offset_bounds-keys-slot
+offset_bounds-keys-slot c =
+    let limit = asked.slot_limit _ _ _ (asking.sought_bound _ _ _ _ (caching.sought_least _ _ _ (λ l h. c.lowest-slot.ensures.answer _ _ _ _ _ h.lists) c.if-slot-eq-NONE.false) c.requires.unbound.sound) in search rules
+
+pub bounds-keys-slot : goal.bounds-keys-slot
+bounds-keys-slot c = (asked.slot_sized _ _ _ (asking.sought_bound _ _ _ _ (caching.sought_least _ _ _ (λ l h. c.lowest-slot.ensures.answer _ _ _ _ _ h.lists) c.if-slot-eq-NONE.false) c.requires.unbound.sound)).0
+
 pub replace-after-requires : goal.replace-after-requires
 replace-after-requires c =
     asking.out_replaceable _ _ _ _ c.requires.unbound.sound c.requires.unbound.missed c.requires.full (caching.sought_least _ _ _ (λ l h. c.lowest-slot.ensures.answer _ _ _ _ _ h.lists) c.if-slot-eq-NONE.false)
