@@ -8,6 +8,8 @@ ghost use Rattle.drive.specs.Ends.{header_of, last_told};
 
 use buckets_tables::State;
 use drive_lines::Told;
+use std::fs::File;
+use std::os::fd::AsRawFd;
 use trace::Word;
 use trace::input::two_bytes;
 
@@ -84,39 +86,30 @@ fn drive(source: i32) {
     }
 }
 
-// The descriptor of the input that a name stands for.
-fn opened(name: &[u8]) -> i32 {
-    if name.len() == 1 {
-        if name[0] == b'-' {
-            return 0;
-        }
-    }
-    os::open_read(name)
-}
-
-// Carries out the records of the input that an argument names.
-fn named(number: usize) {
-    let mut name = io::buffer();
-    let n = os::arg(number, &mut name);
-    let file = opened(&name[..n]);
-    if file < 0 {
-        io::write_all(1, b"NO FILE\n");
+// Carries out the records of the input that an argument names: `-` is standard input.
+fn named(rt: &HostRuntime, name: &str) {
+    if name == "-" {
+        drive(0);
     } else {
-        drive(file);
-        libc::close(file);
+        match File::open(rt, name) {
+            Ok(file) => drive(file.as_raw_fd()),
+            Err(_) => {
+                io::write_all(1, b"NO FILE\n");
+            }
+        }
     }
     io::write_all(1, b"--\n");
 }
 
 // Argument 0 is the program's own name.
-fn main() {
-    let count = os::arg_count();
-    if count < 2 {
+fn main(rt: HostRuntime) -> std::io::Result<()> {
+    let mut alone = true;
+    for name in std::env::args(&rt)?.skip(1) {
+        named(&rt, name.as_str());
+        alone = false;
+    }
+    if alone {
         drive(0);
     }
-    let mut number: usize = 1;
-    while number < count {
-        named(number);
-        number += 1;
-    }
+    Ok(())
 }

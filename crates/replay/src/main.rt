@@ -5,6 +5,8 @@
 #![tactic(auto)]
 
 use buckets_tables::State;
+use std::fs::File;
+use std::os::fd::AsRawFd;
 use trace::input::{HEADER, header};
 use trace::{Header, Line, Word};
 
@@ -39,39 +41,30 @@ fn replay(from: i32) {
     }
 }
 
-// The descriptor of the input that a name stands for.
-fn opened(name: &[u8]) -> i32 {
-    if name.len() == 1 {
-        if name[0] == b'-' {
-            return 0;
-        }
-    }
-    os::open_read(name)
-}
-
-// Replays the trace that an argument names.
-fn named(number: usize) {
-    let mut name = io::buffer();
-    let n = os::arg(number, &mut name);
-    let file = opened(&name[..n]);
-    if file < 0 {
-        io::write_all(1, b"NO FILE\n");
+// Replays the trace that an argument names: `-` is standard input.
+fn named(rt: &HostRuntime, name: &str) {
+    if name == "-" {
+        replay(0);
     } else {
-        replay(file);
-        libc::close(file);
+        match File::open(rt, name) {
+            Ok(file) => replay(file.as_raw_fd()),
+            Err(_) => {
+                io::write_all(1, b"NO FILE\n");
+            }
+        }
     }
     io::write_all(1, b"--\n");
 }
 
 // Argument 0 is the program's own name.
-fn main() {
-    let count = os::arg_count();
-    if count < 2 {
+fn main(rt: HostRuntime) -> std::io::Result<()> {
+    let mut alone = true;
+    for name in std::env::args(&rt)?.skip(1) {
+        named(&rt, name.as_str());
+        alone = false;
+    }
+    if alone {
         replay(0);
     }
-    let mut number: usize = 1;
-    while number < count {
-        named(number);
-        number += 1;
-    }
+    Ok(())
 }

@@ -7,4 +7,4 @@ use Rattle.first_steps.proofs.say.Goals as goal
 
 pub slice_bounds-write_all-end : goal.slice_bounds-write_all-end
 slice_bounds-write_all-end c =
-    sym (length-take-le c.write-end.result c.write-end.new.0 (omega (arith, c.write-end.ensures.short, c.write-end.auto.out)))
+    sym (length-take-le c.write-end.result c.write-end.new.out (omega (arith, c.write-end.ensures.short, c.write-end.auto.out)))

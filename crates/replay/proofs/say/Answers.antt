@@ -7,4 +7,4 @@ use Rattle.replay.proofs.say.Goals as goal
 
 pub slice_bounds-write_all-end : goal.slice_bounds-write_all-end
 slice_bounds-write_all-end c =
-    sym (length-take-le c.write-n.result c.write-n.new.0 (omega (arith, c.write-n.ensures.short, c.write-n.auto.out)))
+    sym (length-take-le c.write-n.result c.write-n.new.out (omega (arith, c.write-n.ensures.short, c.write-n.auto.out)))

@@ -12,4 +12,4 @@ slice_bounds-read_full-end-2 c = sym (length-take-le DRIVE_PART c.args.input.now
 
 pub returns : goal.returns
 returns c =
-    (omega arith, (read_fits c.args.input.now c.read_full.new.1.0 DRIVE_PART c.read_full.result c.requires.2 c.read_full.auto.buf c.read_full.ensures.0).1, refl)
+    (omega arith, (read_fits c.args.input.now c.read_full.new.buf DRIVE_PART c.read_full.result c.requires.2 c.read_full.auto.buf c.read_full.ensures.0).1, refl)

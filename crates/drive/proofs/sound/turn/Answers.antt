@@ -25,7 +25,7 @@ slice_bounds-write_all-end c = c.feed-fed.ensures.room
 
 pub slice_bounds-write_all-end-2 : goal.slice_bounds-write_all-end-2
 slice_bounds-write_all-end-2 c =
-    sym (length-take-le c.feed-fed.result.at c.feed-fed.new.1.1.1.1.1.1.1.1.1.1.1.1.1.1.1.0 c.feed-fed.ensures.room)
+    sym (length-take-le c.feed-fed.result.at c.feed-fed.new.out c.feed-fed.ensures.room)
 
 pub shape_of-k : goal.shape_of-k
 shape_of-k c = c.feed-fed.auto.k

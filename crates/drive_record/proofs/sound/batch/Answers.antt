@@ -19,11 +19,11 @@ slice_bounds-fill-end-2 c =
 
 pub slice_bounds-values-end-2 : goal.slice_bounds-values-end-2
 slice_bounds-values-end-2 c =
-    let more = c.surplus-more.ensures in let small = c.if-b-more.false in let room = c.requires in sym (values_size (c.args.b + c.surplus-more.result) c.args.items.now c.fill.new.0 (omega arith) c.fill.auto.items)
+    let more = c.surplus-more.ensures in let small = c.if-b-more.false in let room = c.requires in sym (values_size (c.args.b + c.surplus-more.result) c.args.items.now c.fill.new.items (omega arith) c.fill.auto.items)
 
 pub slice_bounds-keys-end : goal.slice_bounds-keys-end
 slice_bounds-keys-end c =
-    let more = c.surplus-more.ensures in let small = c.if-b-more.false in let room = c.requires in let size = values_size (c.args.b + c.surplus-more.result) c.args.items.now c.fill.new.0 (omega arith) c.fill.auto.items in sym (length-take-le c.args.b _ (omega arith))
+    let more = c.surplus-more.ensures in let small = c.if-b-more.false in let room = c.requires in let size = values_size (c.args.b + c.surplus-more.result) c.args.items.now c.fill.new.items (omega arith) c.fill.auto.items in sym (length-take-le c.args.b _ (omega arith))
 
 pub shape_of-k-then-code-lt63 : goal.shape_of-k-then-code-lt63
 shape_of-k-then-code-lt63 c = c.batch.auto.k
@@ -53,11 +53,11 @@ pub shape_of-sp-then-code-lt63 : goal.shape_of-sp-then-code-lt63
 shape_of-sp-then-code-lt63 c = c.batch.auto.sp
 
 pub shape_of-items-then-code-lt63 : goal.shape_of-items-then-code-lt63
-shape_of-items-then-code-lt63 c = length_front c.args.items.now c.fill.new.0 (c.args.b + c.surplus-more.result) c.fill.auto.items
+shape_of-items-then-code-lt63 c = length_front c.args.items.now c.fill.new.items (c.args.b + c.surplus-more.result) c.fill.auto.items
 
 pub returns-then-code-lt63 : goal.returns-then-code-lt63
 returns-then-code-lt63 c =
-    let more = c.surplus-more.ensures in let small = c.if-b-more.false in let room = c.requires in batched_bucket c.args.code c.args.a c.args.b _ _ _ _ _ c.surplus-more.result c.surplus-more.ensures.0 (omega arith) _ (keys_lent c.args.a c.args.b (c.args.b + c.surplus-more.result) _ (omega arith) (values_lent (c.args.b + c.surplus-more.result) c.args.items.now c.fill.new.0 (omega arith) c.fill.auto.items c.args.a c.fill.ensures)) c.if-code-lt63.true c.batch.ensures refl
+    let more = c.surplus-more.ensures in let small = c.if-b-more.false in let room = c.requires in batched_bucket c.args.code c.args.a c.args.b _ _ _ _ _ c.surplus-more.result c.surplus-more.ensures.0 (omega arith) _ (keys_lent c.args.a c.args.b (c.args.b + c.surplus-more.result) _ (omega arith) (values_lent (c.args.b + c.surplus-more.result) c.args.items.now c.fill.new.items (omega arith) c.fill.auto.items c.args.a c.fill.ensures)) c.if-code-lt63.true c.batch.ensures refl
 
 pub shape_of-k : goal.shape_of-k
 shape_of-k c = c.batch-2.auto.k
@@ -90,8 +90,8 @@ pub shape_of-vs : goal.shape_of-vs
 shape_of-vs c = c.batch-2.auto.vs
 
 pub shape_of-items : goal.shape_of-items
-shape_of-items c = length_front c.args.items.now c.fill.new.0 (c.args.b + c.surplus-more.result) c.fill.auto.items
+shape_of-items c = length_front c.args.items.now c.fill.new.items (c.args.b + c.surplus-more.result) c.fill.auto.items
 
 pub returns : goal.returns
 returns c =
-    let more = c.surplus-more.ensures in let small = c.if-b-more.false in let room = c.requires in let high = c.if-code-lt63.false in batched_cache c.args.code c.args.a c.args.b _ _ _ _ _ c.surplus-more.result c.surplus-more.ensures.0 (omega arith) _ (keys_lent c.args.a c.args.b (c.args.b + c.surplus-more.result) _ (omega arith) (values_lent (c.args.b + c.surplus-more.result) c.args.items.now c.fill.new.0 (omega arith) c.fill.auto.items c.args.a c.fill.ensures)) (omega arith) _ (values_lent (c.args.b + c.surplus-more.result) c.args.items.now c.fill.new.0 (omega arith) c.fill.auto.items c.args.a c.fill.ensures) c.batch-2.ensures
+    let more = c.surplus-more.ensures in let small = c.if-b-more.false in let room = c.requires in let high = c.if-code-lt63.false in batched_cache c.args.code c.args.a c.args.b _ _ _ _ _ c.surplus-more.result c.surplus-more.ensures.0 (omega arith) _ (keys_lent c.args.a c.args.b (c.args.b + c.surplus-more.result) _ (omega arith) (values_lent (c.args.b + c.surplus-more.result) c.args.items.now c.fill.new.items (omega arith) c.fill.auto.items c.args.a c.fill.ensures)) (omega arith) _ (values_lent (c.args.b + c.surplus-more.result) c.args.items.now c.fill.new.items (omega arith) c.fill.auto.items c.args.a c.fill.ensures) c.batch-2.ensures

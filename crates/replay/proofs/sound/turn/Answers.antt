@@ -12,14 +12,14 @@ slice_bounds-read_full-end-2 c = sym (length-take-le PART c.args.input.now c.req
 
 pub part-printed-requires : goal.part-printed-requires
 part-printed-requires c =
-    let fits = read_fits c.args.input.now c.read_full-n.new.1.0 PART c.read_full-n.result c.requires.1.reads c.read_full-n.auto.buf c.read_full-n.ensures.0 in (c.requires.0, fits.0, omega (arith, fits.1, c.requires.1.prints))
+    let fits = read_fits c.args.input.now c.read_full-n.new.buf PART c.read_full-n.result c.requires.1.reads c.read_full-n.auto.buf c.read_full-n.ensures.0 in (c.requires.0, fits.0, omega (arith, fits.1, c.requires.1.prints))
 
 pub slice_bounds-write_all-end : goal.slice_bounds-write_all-end
 slice_bounds-write_all-end c = c.part-printed.ensures.room
 
 pub slice_bounds-write_all-end-2 : goal.slice_bounds-write_all-end-2
 slice_bounds-write_all-end-2 c =
-    sym (length-take-le c.part-printed.result.at c.part-printed.new.1.1.1.1.1.1.1.1.1.1.1.1.1.0 c.part-printed.ensures.room)
+    sym (length-take-le c.part-printed.result.at c.part-printed.new.out c.part-printed.ensures.room)
 
 pub shape_of-keys : goal.shape_of-keys
 shape_of-keys c = c.part-printed.auto.keys
@@ -52,11 +52,11 @@ pub shape_of-values : goal.shape_of-values
 shape_of-values c = c.part-printed.auto.values
 
 pub shape_of-input : goal.shape_of-input
-shape_of-input c = length_front c.args.input.now c.read_full-n.new.1.0 PART c.read_full-n.auto.buf
+shape_of-input c = length_front c.args.input.now c.read_full-n.new.buf PART c.read_full-n.auto.buf
 
 pub shape_of-out : goal.shape_of-out
 shape_of-out c = c.part-printed.auto.out
 
 pub returns : goal.returns
 returns c =
-    record { fits = (read_fits c.args.input.now c.read_full-n.new.1.0 PART c.read_full-n.result c.requires.1.reads c.read_full-n.auto.buf c.read_full-n.ensures.0).1; parts = c.part-printed.ensures; goes_on = c.goes_on.ensures }
+    record { fits = (read_fits c.args.input.now c.read_full-n.new.buf PART c.read_full-n.result c.requires.1.reads c.read_full-n.auto.buf c.read_full-n.ensures.0).1; parts = c.part-printed.ensures; goes_on = c.goes_on.ensures }

@@ -19,11 +19,11 @@ returns-then-got-n c = λ more. absurd (neither _ more c.none-then-got-n.ensures
 
 pub slice_bounds-whole-end-2 : goal.slice_bounds-whole-end-2
 slice_bounds-whole-end-2 c =
-    sym (read_size c.args.input.now c.read_full-got.new.1.0 c.next_length-n.result (omega (arith, c.next_length-n.ensures, c.requires.reads)) c.read_full-got.auto.buf)
+    sym (read_size c.args.input.now c.read_full-got.new.buf c.next_length-n.result (omega (arith, c.next_length-n.ensures, c.requires.reads)) c.read_full-got.auto.buf)
 
 pub whole-at-requires : goal.whole-at-requires
 whole-at-requires c =
-    let size = read_size c.args.input.now c.read_full-got.new.1.0 c.next_length-n.result (omega (arith, c.next_length-n.ensures, c.requires.reads)) c.read_full-got.auto.buf in (omega (arith, c.if-n-eq-PART.false, c.next_length-n.ensures), omega (arith, c.next_length-n.ensures, c.requires.prints))
+    let size = read_size c.args.input.now c.read_full-got.new.buf c.next_length-n.result (omega (arith, c.next_length-n.ensures, c.requires.reads)) c.read_full-got.auto.buf in (omega (arith, c.if-n-eq-PART.false, c.next_length-n.ensures), omega (arith, c.next_length-n.ensures, c.requires.prints))
 
 pub slice_bounds-write_all-end-2 : goal.slice_bounds-write_all-end-2
-slice_bounds-write_all-end-2 c = sym (length-take-le c.whole-at.result c.whole-at.new.1.0 c.whole-at.ensures.room)
+slice_bounds-write_all-end-2 c = sym (length-take-le c.whole-at.result c.whole-at.new.out c.whole-at.ensures.room)

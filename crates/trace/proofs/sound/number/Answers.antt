@@ -6,8 +6,8 @@ use Rattle.trace.proofs.sound.number.Goals as goal
 
 pub put-requires : goal.put-requires
 put-requires c =
-    let few = digits_few _ _ c.ranges.n.fits c.decimal-k.ensures.1.0 in omega (arith, c.decimal-k.ensures.0.1, c.requires)
+    let few = digits_few _ _ c.ranges.n.fits c.decimal-k.ensures.len in omega (arith, c.decimal-k.ensures.in_bounds.1, c.requires)
 
 pub returns : goal.returns
 returns c =
-    number_spelled _ _ _ _ _ _ _ c.ranges.n.fits c.decimal-k.ensures.0 c.decimal-k.ensures.1.0 c.decimal-k.ensures.1.1 c.put.ensures
+    number_spelled _ _ _ _ _ _ _ c.ranges.n.fits c.decimal-k.ensures.in_bounds c.decimal-k.ensures.len c.decimal-k.ensures.digits c.put.ensures
