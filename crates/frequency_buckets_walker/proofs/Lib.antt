@@ -1,5 +1,4 @@
 pub mod Agreeing
 pub mod Answers
-pub mod Passed
 pub mod Places
 pub mod Shown
