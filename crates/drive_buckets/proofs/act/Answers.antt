@@ -34,7 +34,7 @@ shape_of-sp-in-1 c = c.insert.auto.spares
 
 pub returns-in-1 : goal.returns-in-1
 returns-in-1 c =
-    made _ _ _ _ _ (λ (m : ℕ). bucket_call m c.args.a c.args.b) _ 1 _ refl c.in-1.keys1 (plain_reply c.insert.result.answer) c.insert.result.state c.stored.ensures.0 c.stored.ensures.1 c.insert.ensures
+    made _ _ _ _ _ (λ (m : ℕ). bucket_call m c.args.a c.args.b) _ 1 _ refl c.in-1.is (plain_reply c.insert.result.answer) c.insert.result.state c.stored.ensures.0 c.stored.ensures.1 c.insert.ensures
 
 pub shape_of-f-in-2 : goal.shape_of-f-in-2
 shape_of-f-in-2 c = c.touch.auto.freqs
@@ -56,7 +56,7 @@ shape_of-sp-in-2 c = c.touch.auto.spares
 
 pub returns-in-2 : goal.returns-in-2
 returns-in-2 c =
-    made _ _ _ _ _ (λ (m : ℕ). bucket_call m c.args.a c.args.b) _ 2 _ refl c.in-2.keys2 (level_reply c.touch.result.answer) c.touch.result.state c.leveled.ensures.0 c.leveled.ensures.1 c.touch.ensures
+    made _ _ _ _ _ (λ (m : ℕ). bucket_call m c.args.a c.args.b) _ 2 _ refl c.in-2.is (level_reply c.touch.result.answer) c.touch.result.state c.leveled.ensures.0 c.leveled.ensures.1 c.touch.ensures
 
 pub shape_of-f-in-3 : goal.shape_of-f-in-3
 shape_of-f-in-3 c = c.touch-in-3.auto.freqs
@@ -78,7 +78,7 @@ shape_of-sp-in-3 c = c.touch-in-3.auto.spares
 
 pub returns-in-3 : goal.returns-in-3
 returns-in-3 c =
-    made _ _ _ _ _ (λ (m : ℕ). bucket_call m c.args.a c.args.b) _ 3 _ refl c.in-3.keys3 (level_reply c.touch-in-3.result.answer) c.touch-in-3.result.state c.leveled-in-3.ensures.0 c.leveled-in-3.ensures.1 c.touch-in-3.ensures
+    made _ _ _ _ _ (λ (m : ℕ). bucket_call m c.args.a c.args.b) _ 3 _ refl c.in-3.is (level_reply c.touch-in-3.result.answer) c.touch-in-3.result.state c.leveled-in-3.ensures.0 c.leveled-in-3.ensures.1 c.touch-in-3.ensures
 
 pub shape_of-k-in-4 : goal.shape_of-k-in-4
 shape_of-k-in-4 c = c.remove.auto.keys
@@ -109,7 +109,7 @@ shape_of-sp-in-4 c = c.remove.auto.spares
 
 pub returns-in-4 : goal.returns-in-4
 returns-in-4 c =
-    made _ _ _ _ _ (λ (m : ℕ). bucket_call m c.args.a c.args.b) _ 4 _ refl c.in-4.keys4 (level_reply c.remove.result.answer) c.remove.result.state c.leveled-in-4.ensures.0 c.leveled-in-4.ensures.1 c.remove.ensures
+    made _ _ _ _ _ (λ (m : ℕ). bucket_call m c.args.a c.args.b) _ 4 _ refl c.in-4.is (level_reply c.remove.result.answer) c.remove.result.state c.leveled-in-4.ensures.0 c.leveled-in-4.ensures.1 c.remove.ensures
 
 pub shape_of-k-in-5 : goal.shape_of-k-in-5
 shape_of-k-in-5 c = c.pop_min.auto.keys
@@ -140,7 +140,7 @@ shape_of-sp-in-5 c = c.pop_min.auto.spares
 
 pub returns-in-5 : goal.returns-in-5
 returns-in-5 c =
-    made _ _ _ _ _ (λ (m : ℕ). bucket_call m c.args.a c.args.b) _ 5 _ refl c.in-5.keys5 (least_reply c.pop_min.result.answer) c.pop_min.result.state c.popped.ensures.0 c.popped.ensures.1 c.pop_min.ensures
+    made _ _ _ _ _ (λ (m : ℕ). bucket_call m c.args.a c.args.b) _ 5 _ refl c.in-5.is (least_reply c.pop_min.result.answer) c.pop_min.result.state c.popped.ensures.0 c.popped.ensures.1 c.pop_min.ensures
 
 pub shape_of-k-in_default : goal.shape_of-k-in_default
 shape_of-k-in_default c = c.whole.auto.k
@@ -171,4 +171,4 @@ shape_of-sp-in_default c = c.whole.auto.sp
 
 pub returns-in_default : goal.returns-in_default
 returns-in_default c =
-    sent _ _ _ _ _ _ _ (no_key _ _ _ c.in_default.rest.0.0.0.0.1 c.in_default.rest.0.0.0.1 c.in_default.rest.0.0.1 c.in_default.rest.0.1 c.in_default.rest.1) _ _ refl refl c.whole.ensures
+    sent _ _ _ _ _ _ _ (no_key _ _ _ c.in_default.in_default-own.rest.0.0.0.0.1 c.in_default.in_default-own.rest.0.0.0.1 c.in_default.in_default-own.rest.0.0.1 c.in_default.in_default-own.rest.0.1 c.in_default.in_default-own.rest.1) _ _ refl refl c.whole.ensures

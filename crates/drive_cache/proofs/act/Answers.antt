@@ -36,7 +36,7 @@ shape_of-vs-in-40 c = c.insert.auto.values
 
 pub returns-in-40 : goal.returns-in-40
 returns-in-40 c =
-    acted _ _ _ _ _ _ 40 c.in-40.keys1 _ _ (bound _ _ _ _ _ _ c.inserted.ensures.1 _ _ c.insert.result.answer c.inserted.ensures.0 c.insert.ensures)
+    acted _ _ _ _ _ _ 40 c.in-40.is _ _ (bound _ _ _ _ _ _ c.inserted.ensures.1 _ _ c.insert.result.answer c.inserted.ensures.0 c.insert.ensures)
 
 pub shape_of-f-in-41 : goal.shape_of-f-in-41
 shape_of-f-in-41 c = c.get.auto.freqs
@@ -58,7 +58,7 @@ shape_of-sp-in-41 c = c.get.auto.spares
 
 pub returns-in-41 : goal.returns-in-41
 returns-in-41 c =
-    acted _ _ _ _ _ _ 41 c.in-41.keys2 _ _ (called _ _ _ _ _ _ c.valued.ensures.1 (Get _) _ c.valued.ensures.0 c.get.ensures)
+    acted _ _ _ _ _ _ 41 c.in-41.is _ _ (called _ _ _ _ _ _ c.valued.ensures.1 (Get _) _ c.valued.ensures.0 c.get.ensures)
 
 pub shape_of-k-in-43 : goal.shape_of-k-in-43
 shape_of-k-in-43 c = c.remove.auto.keys
@@ -92,7 +92,7 @@ shape_of-vs-in-43 c = c.remove.auto.values
 
 pub returns-in-43 : goal.returns-in-43
 returns-in-43 c =
-    acted _ _ _ _ _ _ 43 c.in-43.keys3 _ _ (called _ _ _ _ _ _ c.valued-in-43.ensures.1 (Remove _) _ c.valued-in-43.ensures.0 c.remove.ensures)
+    acted _ _ _ _ _ _ 43 c.in-43.is _ _ (called _ _ _ _ _ _ c.valued-in-43.ensures.1 (Remove _) _ c.valued-in-43.ensures.0 c.remove.ensures)
 
 pub shape_of-k-in-44 : goal.shape_of-k-in-44
 shape_of-k-in-44 c = c.clear.auto.keys
@@ -123,7 +123,7 @@ shape_of-vs-in-44 c = c.clear.auto.values
 
 pub returns-in-44 : goal.returns-in-44
 returns-in-44 c =
-    acted _ _ _ _ _ _ 44 c.in-44.keys4 _ _ (called _ _ _ _ _ _ c.stored.ensures.1 Clear _ c.stored.ensures.0 c.clear.ensures)
+    acted _ _ _ _ _ _ 44 c.in-44.is _ _ (called _ _ _ _ _ _ c.stored.ensures.1 Clear _ c.stored.ensures.0 c.clear.ensures)
 
 pub shape_of-k-in-46 : goal.shape_of-k-in-46
 shape_of-k-in-46 c = c.evict_min_freq.auto.keys
@@ -157,7 +157,7 @@ shape_of-vs-in-46 c = c.evict_min_freq.auto.values
 
 pub returns-in-46 : goal.returns-in-46
 returns-in-46 c =
-    acted _ _ _ _ _ _ 46 c.in-46.keys5 _ _ (called _ _ _ _ _ _ c.evicted.ensures.1 Evict _ c.evicted.ensures.0 c.evict_min_freq.ensures)
+    acted _ _ _ _ _ _ 46 c.in-46.is _ _ (called _ _ _ _ _ _ c.evicted.ensures.1 Evict _ c.evicted.ensures.0 c.evict_min_freq.ensures)
 
 pub shape_of-f-in-47 : goal.shape_of-f-in-47
 shape_of-f-in-47 c = c.reset_frequency.auto.freqs
@@ -179,8 +179,8 @@ shape_of-sp-in-47 c = c.reset_frequency.auto.spares
 
 pub returns-in-47 : goal.returns-in-47
 returns-in-47 c =
-    acted _ _ _ _ _ _ 47 c.in-47.keys6 _ _ (called _ _ _ _ _ _ c.leveled.ensures.1 (Reset _) _ c.leveled.ensures.0 c.reset_frequency.ensures)
+    acted _ _ _ _ _ _ 47 c.in-47.is _ _ (called _ _ _ _ _ _ c.leveled.ensures.1 (Reset _) _ c.leveled.ensures.0 c.reset_frequency.ensures)
 
 pub returns-in_default : goal.returns-in_default
 returns-in_default c =
-    acted_else _ _ _ _ _ _ _ _ c.in_default.rest.0.0.0.0.0.1 c.in_default.rest.0.0.0.0.1 c.in_default.rest.0.0.0.1 c.in_default.rest.0.0.1 c.in_default.rest.0.1 c.in_default.rest.1 c.asks.ensures
+    acted_else _ _ _ _ _ _ _ _ c.in_default.in_default-own.rest.0.0.0.0.0.1 c.in_default.in_default-own.rest.0.0.0.0.1 c.in_default.in_default-own.rest.0.0.0.1 c.in_default.in_default-own.rest.0.0.1 c.in_default.in_default-own.rest.0.1 c.in_default.in_default-own.rest.1 c.asks.ensures

@@ -8,7 +8,7 @@ use Rattle.lfu_queries.proofs.peek.Goals as goal
 
 pub peek-requires : goal.peek-requires
 peek-requires c =
-    asking.with_values _ _ _ _ _ _ _ _ _ _ _ (public.checked _ _ _ _ c.refusal-why.ensures c.is_done.ensures c.if-is_done.true)
+    asking.with_values_lem _ _ _ _ _ _ _ _ _ _ _ (public.checked _ _ _ _ c.refusal-why.ensures c.is_done.ensures c.if-is_done.true)
 
 pub returns-then-is_done : goal.returns-then-is_done
 returns-then-is_done c =

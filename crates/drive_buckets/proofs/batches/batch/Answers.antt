@@ -34,7 +34,7 @@ shape_of-sp-in-60 c = c.insert_batch.auto.spares
 
 pub returns-in-60 : goal.returns-in-60
 returns-in-60 c =
-    made _ _ _ _ _ (λ (m : ℕ). batch_call m c.args.items.now) _ 60 _ refl c.in-60.keys1 (count_reply c.insert_batch.result.answer) c.insert_batch.result.state c.counted.ensures.0 c.counted.ensures.1 c.insert_batch.ensures
+    made _ _ _ _ _ (λ (m : ℕ). batch_call m c.args.items.now) _ 60 _ refl c.in-60.is (count_reply c.insert_batch.result.answer) c.insert_batch.result.state c.counted.ensures.0 c.counted.ensures.1 c.insert_batch.ensures
 
 pub shape_of-f-in-61 : goal.shape_of-f-in-61
 shape_of-f-in-61 c = c.touch_batch.auto.freqs
@@ -56,7 +56,7 @@ shape_of-sp-in-61 c = c.touch_batch.auto.spares
 
 pub returns-in-61 : goal.returns-in-61
 returns-in-61 c =
-    made _ _ _ _ _ (λ (m : ℕ). batch_call m c.args.items.now) _ 61 _ refl c.in-61.keys2 (count_reply c.touch_batch.result.answer) c.touch_batch.result.state c.counted-in-61.ensures.0 c.counted-in-61.ensures.1 c.touch_batch.ensures
+    made _ _ _ _ _ (λ (m : ℕ). batch_call m c.args.items.now) _ 61 _ refl c.in-61.is (count_reply c.touch_batch.result.answer) c.touch_batch.result.state c.counted-in-61.ensures.0 c.counted-in-61.ensures.1 c.touch_batch.ensures
 
 pub shape_of-k-in-62 : goal.shape_of-k-in-62
 shape_of-k-in-62 c = c.remove_batch.auto.keys
@@ -87,8 +87,8 @@ shape_of-sp-in-62 c = c.remove_batch.auto.spares
 
 pub returns-in-62 : goal.returns-in-62
 returns-in-62 c =
-    made _ _ _ _ _ (λ (m : ℕ). batch_call m c.args.items.now) _ 62 _ refl c.in-62.keys3 (count_reply c.remove_batch.result.answer) c.remove_batch.result.state c.counted-in-62.ensures.0 c.counted-in-62.ensures.1 c.remove_batch.ensures
+    made _ _ _ _ _ (λ (m : ℕ). batch_call m c.args.items.now) _ 62 _ refl c.in-62.is (count_reply c.remove_batch.result.answer) c.remove_batch.result.state c.counted-in-62.ensures.0 c.counted-in-62.ensures.1 c.remove_batch.ensures
 
 pub returns-in_default : goal.returns-in_default
 returns-in_default c =
-    sent _ _ _ _ _ _ _ (no_batch _ _ c.in_default.rest.0.0.1 c.in_default.rest.0.1 c.in_default.rest.1) _ _ refl refl (c.stays.ensures.0, refl, c.stays.ensures.1)
+    sent _ _ _ _ _ _ _ (no_batch _ _ c.in_default.in_default-own.rest.0.0.1 c.in_default.in_default-own.rest.0.1 c.in_default.in_default-own.rest.1) _ _ refl refl (c.stays.ensures.0, refl, c.stays.ensures.1)

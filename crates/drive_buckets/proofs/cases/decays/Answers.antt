@@ -22,7 +22,7 @@ shape_of-sp-in-17 c = c.decay_halve.auto.spares
 
 pub returns-in-17 : goal.returns-in-17
 returns-in-17 c =
-    made _ _ _ _ _ (λ (m : ℕ). decay_call m c.args.a c.args.b) _ 17 _ refl c.in-17.keys1 (plain_reply c.decay_halve.result.answer) c.decay_halve.result.state c.stored.ensures.0 c.stored.ensures.1 c.decay_halve.ensures
+    made _ _ _ _ _ (λ (m : ℕ). decay_call m c.args.a c.args.b) _ 17 _ refl c.in-17.is (plain_reply c.decay_halve.result.answer) c.decay_halve.result.state c.stored.ensures.0 c.stored.ensures.1 c.decay_halve.ensures
 
 pub shape_of-f-in-18 : goal.shape_of-f-in-18
 shape_of-f-in-18 c = c.rebase_min_freq.auto.freqs
@@ -41,7 +41,7 @@ shape_of-sp-in-18 c = c.rebase_min_freq.auto.spares
 
 pub returns-in-18 : goal.returns-in-18
 returns-in-18 c =
-    made _ _ _ _ _ (λ (m : ℕ). decay_call m c.args.a c.args.b) _ 18 _ refl c.in-18.keys2 (plain_reply c.rebase_min_freq.result.answer) c.rebase_min_freq.result.state c.stored-in-18.ensures.0 c.stored-in-18.ensures.1 c.rebase_min_freq.ensures
+    made _ _ _ _ _ (λ (m : ℕ). decay_call m c.args.a c.args.b) _ 18 _ refl c.in-18.is (plain_reply c.rebase_min_freq.result.answer) c.rebase_min_freq.result.state c.stored-in-18.ensures.0 c.stored-in-18.ensures.1 c.rebase_min_freq.ensures
 
 pub shape_of-f-in-22 : goal.shape_of-f-in-22
 shape_of-f-in-22 c = c.decay_halve_times.auto.freqs
@@ -60,11 +60,11 @@ shape_of-sp-in-22 c = c.decay_halve_times.auto.spares
 
 pub returns-in-22 : goal.returns-in-22
 returns-in-22 c =
-    made _ _ _ _ _ (λ (m : ℕ). decay_call m c.args.a c.args.b) _ 22 _ refl c.in-22.keys3 (plain_reply c.decay_halve_times.result.answer) c.decay_halve_times.result.state c.stored-in-22.ensures.0 c.stored-in-22.ensures.1 c.decay_halve_times.ensures
+    made _ _ _ _ _ (λ (m : ℕ). decay_call m c.args.a c.args.b) _ 22 _ refl c.in-22.is (plain_reply c.decay_halve_times.result.answer) c.decay_halve_times.result.state c.stored-in-22.ensures.0 c.stored-in-22.ensures.1 c.decay_halve_times.ensures
 
 pub shape_of-e-in_default : goal.shape_of-e-in_default
 shape_of-e-in_default c = c.dates.auto.e
 
 pub returns-in_default : goal.returns-in_default
 returns-in_default c =
-    sent _ _ _ _ _ _ _ (no_decay _ _ _ c.in_default.rest.0.0.1 c.in_default.rest.0.1 c.in_default.rest.1) _ _ refl refl c.dates.ensures
+    sent _ _ _ _ _ _ _ (no_decay _ _ _ c.in_default.in_default-own.rest.0.0.1 c.in_default.in_default-own.rest.0.1 c.in_default.in_default-own.rest.1) _ _ refl refl c.dates.ensures

@@ -31,7 +31,7 @@ shape_of-sp-in-19 c = c.clear.auto.spares
 
 pub returns-in-19 : goal.returns-in-19
 returns-in-19 c =
-    made _ _ _ _ _ (λ (m : ℕ). whole_call m c.args.a c.args.b) _ 19 _ refl c.in-19.keys1 (plain_reply c.clear.result.answer) c.clear.result.state c.stored.ensures.0 c.stored.ensures.1 c.clear.ensures
+    made _ _ _ _ _ (λ (m : ℕ). whole_call m c.args.a c.args.b) _ 19 _ refl c.in-19.is (plain_reply c.clear.result.answer) c.clear.result.state c.stored.ensures.0 c.stored.ensures.1 c.clear.ensures
 
 pub shape_of-f-in_default : goal.shape_of-f-in_default
 shape_of-f-in_default c = c.decays.auto.f
@@ -52,4 +52,4 @@ pub shape_of-sp-in_default : goal.shape_of-sp-in_default
 shape_of-sp-in_default c = c.decays.auto.sp
 
 pub returns-in_default : goal.returns-in_default
-returns-in_default c = sent _ _ _ _ _ _ _ (not_whole _ _ _ c.in_default.rest.1) _ _ refl refl c.decays.ensures
+returns-in_default c = sent _ _ _ _ _ _ _ (not_whole _ _ _ c.in_default.in_default-own.rest.1) _ _ refl refl c.decays.ensures

@@ -8,12 +8,9 @@ use Rattle.drive_walk.proofs.sound.items.Goals as goal
 pub loop-left-init : goal.loop-left-init
 loop-left-init c = begun _ _ _ _ _ _ c.requires.1
 
-pub enum_known-slot : goal.enum_known-slot
-enum_known-slot c = c.in-At.keys1
-
 pub returns-in_default : goal.returns-in_default
 returns-in_default c =
-    ended _ _ _ _ _ _ _ _ _ _ c.loop-left.invariant (λ ys h fit. none_left _ _ _ c.reached.ensures c.in_default.keys2 ys h)
+    ended _ _ _ _ _ _ _ _ _ _ c.loop-left.invariant (λ ys h fit. none_left _ _ _ c.reached.ensures c.in_default.in_default-own.keys2 ys h)
 
 pub offset_bounds-k-slot : goal.offset_bounds-k-slot
 offset_bounds-k-slot c =

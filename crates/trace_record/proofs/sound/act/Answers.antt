@@ -54,7 +54,7 @@ pub shape_of-vs-in-1 : goal.shape_of-vs-in-1
 shape_of-vs-in-1 c = c.insert.auto.values
 
 pub returns-in-1 : goal.returns-in-1
-returns-in-1 c = acted _ _ _ _ _ _ _ _ 1 c.in-1.keys1 c.insert.ensures
+returns-in-1 c = acted _ _ _ _ _ _ _ _ 1 c.in-1.is c.insert.ensures
 
 pub shape_of-f-in-2 : goal.shape_of-f-in-2
 shape_of-f-in-2 c = c.get.auto.freqs
@@ -75,10 +75,10 @@ pub shape_of-sp-in-2 : goal.shape_of-sp-in-2
 shape_of-sp-in-2 c = c.get.auto.spares
 
 pub returns-in-2 : goal.returns-in-2
-returns-in-2 c = acted _ _ _ _ _ _ _ _ 2 c.in-2.keys2 (c.get.ensures _)
+returns-in-2 c = acted _ _ _ _ _ _ _ _ 2 c.in-2.is (c.get.ensures _)
 
 pub returns-in-3 : goal.returns-in-3
-returns-in-3 c = acted _ _ _ _ _ _ _ _ 3 c.in-3.keys3 (c.peek.ensures _ _ _ _ _ _ _)
+returns-in-3 c = acted _ _ _ _ _ _ _ _ 3 c.in-3.is (c.peek.ensures _ _ _ _ _ _ _)
 
 pub shape_of-k-in-4 : goal.shape_of-k-in-4
 shape_of-k-in-4 c = c.remove.auto.keys
@@ -111,10 +111,10 @@ pub shape_of-vs-in-4 : goal.shape_of-vs-in-4
 shape_of-vs-in-4 c = c.remove.auto.values
 
 pub returns-in-4 : goal.returns-in-4
-returns-in-4 c = acted _ _ _ _ _ _ _ _ 4 c.in-4.keys4 c.remove.ensures
+returns-in-4 c = acted _ _ _ _ _ _ _ _ 4 c.in-4.is c.remove.ensures
 
 pub returns-in-5 : goal.returns-in-5
-returns-in-5 c = acted _ _ _ _ _ _ _ _ 5 c.in-5.keys5 (c.least.ensures _ _ _ _ _ _ _)
+returns-in-5 c = acted _ _ _ _ _ _ _ _ 5 c.in-5.is (c.least.ensures _ _ _ _ _ _ _)
 
 pub shape_of-f-in-6 : goal.shape_of-f-in-6
 shape_of-f-in-6 c = c.reset.auto.freqs
@@ -135,7 +135,7 @@ pub shape_of-sp-in-6 : goal.shape_of-sp-in-6
 shape_of-sp-in-6 c = c.reset.auto.spares
 
 pub returns-in-6 : goal.returns-in-6
-returns-in-6 c = acted _ _ _ _ _ _ _ _ 6 c.in-6.keys6 (c.reset.ensures _ _)
+returns-in-6 c = acted _ _ _ _ _ _ _ _ 6 c.in-6.is (c.reset.ensures _ _)
 
 pub shape_of-k-in-7 : goal.shape_of-k-in-7
 shape_of-k-in-7 c = c.clear.auto.keys
@@ -165,7 +165,7 @@ pub shape_of-vs-in-7 : goal.shape_of-vs-in-7
 shape_of-vs-in-7 c = c.clear.auto.values
 
 pub returns-in-7 : goal.returns-in-7
-returns-in-7 c = acted _ _ _ _ _ _ _ _ 7 c.in-7.keys7 (c.clear.ensures _)
+returns-in-7 c = acted _ _ _ _ _ _ _ _ 7 c.in-7.is (c.clear.ensures _)
 
 pub shape_of-k-in-8 : goal.shape_of-k-in-8
 shape_of-k-in-8 c = c.evict.auto.keys
@@ -198,11 +198,11 @@ pub shape_of-vs-in-8 : goal.shape_of-vs-in-8
 shape_of-vs-in-8 c = c.evict.auto.values
 
 pub returns-in-8 : goal.returns-in-8
-returns-in-8 c = acted _ _ _ _ _ _ _ _ 8 c.in-8.keys8 c.evict.ensures
+returns-in-8 c = acted _ _ _ _ _ _ _ _ 8 c.in-8.is c.evict.ensures
 
 pub returns-in-0 : goal.returns-in-0
-returns-in-0 c = acted _ _ _ _ _ _ _ _ 0 c.in-0.keys9 (bad_tells _ _ _ _ c.bad.ensures.0 c.bad.ensures.1)
+returns-in-0 c = acted _ _ _ _ _ _ _ _ 0 c.in-0.is (bad_tells _ _ _ _ c.bad.ensures.0 c.bad.ensures.1)
 
 pub returns-in-9-to-255 : goal.returns-in-9-to-255
 returns-in-9-to-255 c =
-    acted_none _ _ _ _ _ _ _ _ c.in-9-to-255.rest.0.0.0.0.0.0.0.0.1 c.in-9-to-255.rest.0.0.0.0.0.0.0.1 c.in-9-to-255.rest.0.0.0.0.0.0.1 c.in-9-to-255.rest.0.0.0.0.0.1 c.in-9-to-255.rest.0.0.0.0.1 c.in-9-to-255.rest.0.0.0.1 c.in-9-to-255.rest.0.0.1 c.in-9-to-255.rest.0.1 (bad_tells _ _ _ _ c.bad-in-9-to-255.ensures.0 c.bad-in-9-to-255.ensures.1)
+    acted_none _ _ _ _ _ _ _ _ c.in-9-to-255.in-9-to-255-own.rest.0.0.0.0.0.0.0.0.1 c.in-9-to-255.in-9-to-255-own.rest.0.0.0.0.0.0.0.1 c.in-9-to-255.in-9-to-255-own.rest.0.0.0.0.0.0.1 c.in-9-to-255.in-9-to-255-own.rest.0.0.0.0.0.1 c.in-9-to-255.in-9-to-255-own.rest.0.0.0.0.1 c.in-9-to-255.in-9-to-255-own.rest.0.0.0.1 c.in-9-to-255.in-9-to-255-own.rest.0.0.1 c.in-9-to-255.in-9-to-255-own.rest.0.1 (bad_tells _ _ _ _ c.bad-in-9-to-255.ensures.0 c.bad-in-9-to-255.ensures.1)
