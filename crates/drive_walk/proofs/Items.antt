@@ -1,20 +1,17 @@
 -- Writing the items of a walk, one behind another. What carries it: whatever writes the items that are left, from here on, has written all of
 -- them from the start; so the loop has only to know what is left.
 use mathlib.Core.Path.{◌≡◌, refl, sym, ap, ◌∙◌, subst}
-use mathlib.Core.Logic.{◌⊎◌, inl, inr}
 use mathlib.Core.List.{List, [], ◌∷◌, append-nil}
 use Prim.Native.Nat.{ℕ, ◌+◌, ◌*◌, ◌≤◌, ◌<◌, ◌-◌}
 use native.Mathlib.Nat.{add-zero}
 use native.Mathlib.Omega.{arith}
-use denote.Enum.Declared.{tag_of}
 use lib.ListN.{length, get_or}
 use Rattle.numbers.specs.Marks.{LIMIT}
 use Rattle.numbers.specs.declared.Slot.{Slot}
 use Rattle.lists.specs.Lists.{All}
 use Rattle.ledger.specs.Ledger.{Item}
 use Rattle.answers.specs.declared.Reached.{Reached}
-use Rattle.answers.specs.declared.Reached.TheVariants.{At, NoMore, Refused}
-use Rattle.answers.specs.contracts.Reached.{the_type}
+use Rattle.answers.specs.declared.Reached.TheVariants.{At}
 use Rattle.frequency_buckets_walker.specs.declared.Stand.{Stand}
 use Rattle.frequency_buckets_walker.specs.Walks.{Linked, Onward, Shows}
 use Rattle.trace.specs.Lines.{DIGITS, spaced}
@@ -44,15 +41,9 @@ module _ (k e n : List ℕ) (h : Listable k e n) where
 -- Where nothing is left
 
 -- the reader has answered no slot
-pub none_left : (n : List ℕ) (st : Stand) (a : Reached) → a ≡ st.answer → (tag_of the_type a ≡ 1) ⊎ (tag_of the_type a ≡ 2) → (ys : List Item) → Shows n st ys → ys ≡ []
+pub none_left : (n : List ℕ) (st : Stand) (a : Reached) → a ≡ st.answer → ((x : Slot) → a ≡ At x → ⊥) → (ys : List Item) → Shows n st ys → ys ≡ []
 none_left n st a q t [] h = refl
-none_left n st a q t (y ∷ ys) h = absurd (go a (q ∙ h.0) t)
-  where
-    go : (b : Reached) → b ≡ At (record { 0 = y.slot }) → (tag_of the_type b ≡ 1) ⊎ (tag_of the_type b ≡ 2) → ⊥
-    go (At x) z (inl w) = omega arith
-    go (At x) z (inr w) = omega arith
-    go NoMore z w = let c : ◌≡◌ {A = ℕ} 0 1 = cc in omega arith
-    go (Refused b) z w = let c : ◌≡◌ {A = ℕ} 0 1 = cc in omega arith
+none_left n st a q t (y ∷ ys) h = absurd (t _ (q ∙ h.0))
 
 pub no_room : (ys : List Item) → length ys ≤ 0 → ys ≡ []
 no_room [] h = refl

@@ -1,12 +1,10 @@
 -- From the start of the reader on any tables to the line that is printed. Where the start is not refused the tables hold a ledger, and the
 -- reader shows the ledger's list, which is no longer than the table of keys.
 use mathlib.Core.Path.{◌≡◌, refl, sym, ap, ◌∙◌, subst}
-use mathlib.Core.Logic.{◌⊎◌, inl, inr}
 use mathlib.Core.Bool.{false}
 use mathlib.Core.List.{List, [], ◌∷◌, ◌++◌}
 use Prim.Native.Nat.{ℕ, ◌+◌, ◌*◌, ◌≤◌, ◌<◌}
 use native.Mathlib.Omega.{arith}
-use denote.Enum.Declared.{tag_of}
 use lib.ListN.{length}
 use Rattle.numbers.specs.Marks.{LIMIT}
 use Rattle.numbers.specs.Answer.{number_of}
@@ -28,7 +26,6 @@ use Rattle.buckets_tables.proofs.Found.{Stands, stands}
 use Rattle.answers.specs.declared.Reached.{Reached}
 use Rattle.answers.specs.declared.Reached.TheVariants.{At, NoMore, Refused}
 use Rattle.answers.specs.Replies.{reached_reply}
-use Rattle.answers.specs.contracts.Reached.{the_type}
 use Rattle.frequency_buckets_walker.specs.declared.Stand.{Stand}
 use Rattle.frequency_buckets_walker.specs.Stands.{is_refused}
 use Rattle.frequency_buckets_walker.specs.Walks.{shows, Starts, Shows}
@@ -58,11 +55,10 @@ list_short g (l ∷ ls) =
 -- Refusals
 
 -- the answers that are none
-unrefused : (a : Reached) → (tag_of the_type a ≡ 0) ⊎ (tag_of the_type a ≡ 1) → is_refused a ≡ false
+unrefused : (a : Reached) → ((w : Answer) → a ≡ Refused w → ⊥) → is_refused a ≡ false
 unrefused (At x) h = refl
 unrefused NoMore h = refl
-unrefused (Refused w) (inl e) = absurd (omega arith)
-unrefused (Refused w) (inr e) = absurd (omega arith)
+unrefused (Refused w) h = absurd (h w refl)
 
 -- no list begins with one
 head_unrefused : (xs : List Item) (w : Answer) → reached_reply (told (head xs)) ≡ refused w → ⊥
@@ -103,10 +99,10 @@ module _ (k f e p n a i b sp : List ℕ) (s : State) (g : ℕ) (first : Stand) w
     pub listed : (out : List ℕ) (at : ℕ) (out' : List ℕ) (r : ℕ) → Lists k e n first out at out' r →
         Spells out at (items_text (list_of g held.levels)) (LIMIT * ITEM) out' r
 
-  pub found : Starts (tables k f e p n a i b sp) s g first → (q : Reached) → q ≡ first.answer → (tag_of the_type q ≡ 0) ⊎ (tag_of the_type q ≡ 1) → Found
-  found starts q is tags =
+  pub found : Starts (tables k f e p n a i b sp) s g first → (q : Reached) → q ≡ first.answer → ((w : Answer) → q ≡ Refused w → ⊥) → Found
+  found starts q is unsaid =
       let t = tables k f e p n a i b sp in
-      let w = stands_held t s (start g) first (sym (ap is_refused is) ∙ unrefused q tags) starts in
+      let w = stands_held t s (start g) first (sym (ap is_refused is) ∙ unrefused q unsaid) starts in
       let l = w.0 in
       let h = w.1.2 in
       let xs = list_of g l.levels in

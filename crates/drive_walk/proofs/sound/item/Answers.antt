@@ -1,5 +1,4 @@
 -- The three numbers, one behind another.
-use borrow.Author.Rules.{rules}
 use Rattle.drive_walk.proofs.Items.{item_spelled}
 use Rattle.drive_walk.proofs.sound.item.Goals as goal
 

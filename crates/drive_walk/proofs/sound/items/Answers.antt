@@ -1,8 +1,7 @@
 -- Each turn writes the item that the reader stands at; what is left is shown from there on.
 use mathlib.Core.Path.{sym, ◌∙◌}
-use borrow.Author.Rules.{rules}
 use native.Mathlib.Omega.{arith}
-use Rattle.drive_walk.proofs.Items.{linked, sizes, none_left, no_room, Written, begun, ended, more}
+use Rattle.drive_walk.proofs.Items.{linked, sizes, none_left, no_room, begun, ended, more}
 use Rattle.drive_walk.proofs.sound.items.Goals as goal
 
 pub loop-left-init : goal.loop-left-init
@@ -10,7 +9,7 @@ loop-left-init c = begun _ _ _ _ _ _ c.requires.1
 
 pub returns-in_default : goal.returns-in_default
 returns-in_default c =
-    ended _ _ _ _ _ _ _ _ _ _ c.loop-left.invariant (λ ys h fit. none_left _ _ _ c.reached.ensures c.in_default.in_default-own.keys2 ys h)
+    ended _ _ _ _ _ _ _ _ _ _ c.loop-left.invariant (λ ys h fit. none_left _ _ _ c.reached.ensures c.in_default.not-At ys h)
 
 pub offset_bounds-k-slot : goal.offset_bounds-k-slot
 offset_bounds-k-slot c =

@@ -1,8 +1,5 @@
 -- Each turn writes the item that the reader stands at; what is left is shown from there on.
-use mathlib.Core.Path.{sym, ◌∙◌}
-use borrow.Author.Rules.{rules}
-use native.Mathlib.Omega.{arith}
-use Rattle.drive_walk.proofs.Items.{linked, sizes, none_left, no_room, Written, begun, ended, more}
+use Rattle.drive_walk.proofs.Items.{Written}
 use Rattle.drive_walk.proofs.sound.items.Given as goal
 
 abbrev pub invariant-loop-left : goal.invariant-loop-left

@@ -1,7 +1,6 @@
 -- A refusal, or the ledger's list behind DONE.
 use mathlib.Core.Path.{sym, ap, ◌∙◌}
 use native.Mathlib.Omega.{arith}
-use borrow.Author.Rules.{rules}
 use Rattle.answers.specs.Replies.{reached_reply}
 use Rattle.drive_walk.proofs.Walking.{refuses, found, printed}
 use Rattle.drive_walk.proofs.sound.walk.Goals as goal
@@ -12,12 +11,12 @@ returns-in-Refused c =
 
 pub items-end-requires : goal.items-end-requires
 items-end-requires c =
-    let w = found _ _ _ _ _ _ _ _ _ _ _ _ c.first-first.ensures _ c.reached.ensures c.in_default.in_default-own.keys2 in (w.listable, w.placed, omega (arith, w.limited, c.number-next.ensures.short, c.number-next.auto.out, c.requires))
+    let w = found _ _ _ _ _ _ _ _ _ _ _ _ c.first-first.ensures _ c.reached.ensures c.in_default.not-Refused in (w.listable, w.placed, omega (arith, w.limited, c.number-next.ensures.short, c.number-next.auto.out, c.requires))
 
 pub put-requires : goal.put-requires
 put-requires c =
-    let w = found _ _ _ _ _ _ _ _ _ _ _ _ c.first-first.ensures _ c.reached.ensures c.in_default.in_default-own.keys2 in omega (arith, w.limited, c.items-end.ensures.room, c.number-next.ensures.short, c.number-next.auto.out, c.items-end.auto.out, c.requires)
+    let w = found _ _ _ _ _ _ _ _ _ _ _ _ c.first-first.ensures _ c.reached.ensures c.in_default.not-Refused in omega (arith, w.limited, c.items-end.ensures.room, c.number-next.ensures.short, c.number-next.auto.out, c.items-end.auto.out, c.requires)
 
 pub returns : goal.returns
 returns c =
-    let w = found _ _ _ _ _ _ _ _ _ _ _ _ c.first-first.ensures _ c.reached.ensures c.in_default.in_default-own.keys2 in printed _ _ _ _ _ _ _ _ _ _ _ _ w _ _ _ _ _ _ _ _ c.number-next.ensures c.items-end.ensures c.put.ensures
+    let w = found _ _ _ _ _ _ _ _ _ _ _ _ c.first-first.ensures _ c.reached.ensures c.in_default.not-Refused in printed _ _ _ _ _ _ _ _ _ _ _ _ w _ _ _ _ _ _ _ _ c.number-next.ensures c.items-end.ensures c.put.ensures

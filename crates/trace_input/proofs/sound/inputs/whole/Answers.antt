@@ -9,6 +9,9 @@ use Rattle.trace_input.proofs.sound.inputs.whole.Goals as goal
 pub slice_bounds-start-count : goal.slice_bounds-start-count
 slice_bounds-start-count c = (begins_fits _ _ (sym c.header-begun.ensures ∙ c.in-Begins.is)).0
 
+pub slice_bounds-start-start : goal.slice_bounds-start-start
+slice_bounds-start-start c = (begins_fits _ _ (sym c.header-begun.ensures ∙ c.in-Begins.is)).0
+
 pub start-requires : goal.start-requires
 start-requires c =
     ((begins_fits _ _ (sym c.header-begun.ensures ∙ c.in-Begins.is)).1, records_room c.args.input.now _ c.requires.1)
