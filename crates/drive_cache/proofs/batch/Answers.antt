@@ -3,91 +3,13 @@ use mathlib.Core.Path.{refl}
 use Rattle.drive_cache.proofs.Driving.{batched, all_inserted, acted_all, acted_inserts, acted_none}
 use Rattle.drive_cache.proofs.batch.Goals as goal
 
-pub shape_of-k-in-63 : goal.shape_of-k-in-63
-shape_of-k-in-63 c = c.insert_batch.auto.keys
-
-pub shape_of-f-in-63 : goal.shape_of-f-in-63
-shape_of-f-in-63 c = c.insert_batch.auto.freqs
-
-pub shape_of-e-in-63 : goal.shape_of-e-in-63
-shape_of-e-in-63 c = c.insert_batch.auto.epochs
-
-pub shape_of-p-in-63 : goal.shape_of-p-in-63
-shape_of-p-in-63 c = c.insert_batch.auto.prevs
-
-pub shape_of-n-in-63 : goal.shape_of-n-in-63
-shape_of-n-in-63 c = c.insert_batch.auto.nexts
-
-pub shape_of-ar-in-63 : goal.shape_of-ar-in-63
-shape_of-ar-in-63 c = c.insert_batch.auto.arena
-
-pub shape_of-ix-in-63 : goal.shape_of-ix-in-63
-shape_of-ix-in-63 c = c.insert_batch.auto.index
-
-pub shape_of-bk-in-63 : goal.shape_of-bk-in-63
-shape_of-bk-in-63 c = c.insert_batch.auto.buckets
-
-pub shape_of-sp-in-63 : goal.shape_of-sp-in-63
-shape_of-sp-in-63 c = c.insert_batch.auto.spares
-
-pub shape_of-vs-in-63 : goal.shape_of-vs-in-63
-shape_of-vs-in-63 c = c.insert_batch.auto.values
-
 pub returns-in-63 : goal.returns-in-63
 returns-in-63 c =
     acted_inserts _ _ _ _ _ _ _ _ c.in-63.is (all_inserted _ _ _ _ _ _ c.counted.ensures.1 _ _ _ c.counted.ensures.0 c.insert_batch.ensures)
 
-pub shape_of-k-in-64 : goal.shape_of-k-in-64
-shape_of-k-in-64 c = c.remove_batch.auto.keys
-
-pub shape_of-f-in-64 : goal.shape_of-f-in-64
-shape_of-f-in-64 c = c.remove_batch.auto.freqs
-
-pub shape_of-e-in-64 : goal.shape_of-e-in-64
-shape_of-e-in-64 c = c.remove_batch.auto.epochs
-
-pub shape_of-p-in-64 : goal.shape_of-p-in-64
-shape_of-p-in-64 c = c.remove_batch.auto.prevs
-
-pub shape_of-n-in-64 : goal.shape_of-n-in-64
-shape_of-n-in-64 c = c.remove_batch.auto.nexts
-
-pub shape_of-ar-in-64 : goal.shape_of-ar-in-64
-shape_of-ar-in-64 c = c.remove_batch.auto.arena
-
-pub shape_of-ix-in-64 : goal.shape_of-ix-in-64
-shape_of-ix-in-64 c = c.remove_batch.auto.index
-
-pub shape_of-bk-in-64 : goal.shape_of-bk-in-64
-shape_of-bk-in-64 c = c.remove_batch.auto.buckets
-
-pub shape_of-sp-in-64 : goal.shape_of-sp-in-64
-shape_of-sp-in-64 c = c.remove_batch.auto.spares
-
-pub shape_of-vs-in-64 : goal.shape_of-vs-in-64
-shape_of-vs-in-64 c = c.remove_batch.auto.values
-
 pub returns-in-64 : goal.returns-in-64
 returns-in-64 c =
     acted_all _ _ _ _ _ _ 64 c.in-64.is c.args.items.now c.args.given.now (batched _ _ _ _ _ _ c.counted-in-64.ensures.1 _ _ c.counted-in-64.ensures.0 c.remove_batch.ensures)
-
-pub shape_of-f-in-65 : goal.shape_of-f-in-65
-shape_of-f-in-65 c = c.touch_batch.auto.freqs
-
-pub shape_of-e-in-65 : goal.shape_of-e-in-65
-shape_of-e-in-65 c = c.touch_batch.auto.epochs
-
-pub shape_of-p-in-65 : goal.shape_of-p-in-65
-shape_of-p-in-65 c = c.touch_batch.auto.prevs
-
-pub shape_of-n-in-65 : goal.shape_of-n-in-65
-shape_of-n-in-65 c = c.touch_batch.auto.nexts
-
-pub shape_of-bk-in-65 : goal.shape_of-bk-in-65
-shape_of-bk-in-65 c = c.touch_batch.auto.buckets
-
-pub shape_of-sp-in-65 : goal.shape_of-sp-in-65
-shape_of-sp-in-65 c = c.touch_batch.auto.spares
 
 pub returns-in-65 : goal.returns-in-65
 returns-in-65 c =

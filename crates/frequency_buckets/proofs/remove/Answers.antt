@@ -8,33 +8,6 @@ use Rattle.frequency_buckets.proofs.remove.Goals as goal
 pub remove-requires : goal.remove-requires
 remove-requires c = (public.checked _ _ _ _ c.refusal-why.ensures c.is_done.ensures c.if-is_done.true)
 
-pub shape_of-keys-then-is_done : goal.shape_of-keys-then-is_done
-shape_of-keys-then-is_done c = c.remove.auto.keys
-
-pub shape_of-freqs-then-is_done : goal.shape_of-freqs-then-is_done
-shape_of-freqs-then-is_done c = c.remove.auto.freqs
-
-pub shape_of-epochs-then-is_done : goal.shape_of-epochs-then-is_done
-shape_of-epochs-then-is_done c = c.remove.auto.epochs
-
-pub shape_of-prevs-then-is_done : goal.shape_of-prevs-then-is_done
-shape_of-prevs-then-is_done c = c.remove.auto.prevs
-
-pub shape_of-nexts-then-is_done : goal.shape_of-nexts-then-is_done
-shape_of-nexts-then-is_done c = c.remove.auto.nexts
-
-pub shape_of-arena-then-is_done : goal.shape_of-arena-then-is_done
-shape_of-arena-then-is_done c = c.remove.auto.arena
-
-pub shape_of-index-then-is_done : goal.shape_of-index-then-is_done
-shape_of-index-then-is_done c = c.remove.auto.index
-
-pub shape_of-buckets-then-is_done : goal.shape_of-buckets-then-is_done
-shape_of-buckets-then-is_done c = c.remove.auto.buckets
-
-pub shape_of-spares-then-is_done : goal.shape_of-spares-then-is_done
-shape_of-spares-then-is_done c = c.remove.auto.spares
-
 pub returns-then-is_done : goal.returns-then-is_done
 unfolding calls
 returns-then-is_done c =

@@ -8,24 +8,6 @@ use Rattle.frequency_buckets.proofs.touch.Goals as goal
 pub touch-requires : goal.touch-requires
 touch-requires c = (_, public.checked _ _ _ _ c.refusal-why.ensures c.is_done.ensures c.if-is_done.true)
 
-pub shape_of-freqs-then-is_done : goal.shape_of-freqs-then-is_done
-shape_of-freqs-then-is_done c = c.touch.auto.freqs
-
-pub shape_of-epochs-then-is_done : goal.shape_of-epochs-then-is_done
-shape_of-epochs-then-is_done c = c.touch.auto.epochs
-
-pub shape_of-prevs-then-is_done : goal.shape_of-prevs-then-is_done
-shape_of-prevs-then-is_done c = c.touch.auto.prevs
-
-pub shape_of-nexts-then-is_done : goal.shape_of-nexts-then-is_done
-shape_of-nexts-then-is_done c = c.touch.auto.nexts
-
-pub shape_of-buckets-then-is_done : goal.shape_of-buckets-then-is_done
-shape_of-buckets-then-is_done c = c.touch.auto.buckets
-
-pub shape_of-spares-then-is_done : goal.shape_of-spares-then-is_done
-shape_of-spares-then-is_done c = c.touch.auto.spares
-
 pub returns-then-is_done : goal.returns-then-is_done
 unfolding calls
 returns-then-is_done c =

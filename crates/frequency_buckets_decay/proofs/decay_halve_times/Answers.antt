@@ -9,21 +9,6 @@ use Rattle.frequency_buckets_decay.proofs.decay_halve_times.Goals as goal
 pub decay_halve_times-after-requires : goal.decay_halve_times-after-requires
 decay_halve_times-after-requires c = (_, _, _, _, public.checked _ _ _ _ c.refusal-why.ensures c.is_done.ensures c.if-is_done.true)
 
-pub shape_of-freqs-then-is_done : goal.shape_of-freqs-then-is_done
-shape_of-freqs-then-is_done c = c.decay_halve_times-after.auto.freqs
-
-pub shape_of-prevs-then-is_done : goal.shape_of-prevs-then-is_done
-shape_of-prevs-then-is_done c = c.decay_halve_times-after.auto.prevs
-
-pub shape_of-nexts-then-is_done : goal.shape_of-nexts-then-is_done
-shape_of-nexts-then-is_done c = c.decay_halve_times-after.auto.nexts
-
-pub shape_of-buckets-then-is_done : goal.shape_of-buckets-then-is_done
-shape_of-buckets-then-is_done c = c.decay_halve_times-after.auto.buckets
-
-pub shape_of-spares-then-is_done : goal.shape_of-spares-then-is_done
-shape_of-spares-then-is_done c = c.decay_halve_times-after.auto.spares
-
 pub returns-then-is_done : goal.returns-then-is_done
 unfolding calls
 returns-then-is_done c =

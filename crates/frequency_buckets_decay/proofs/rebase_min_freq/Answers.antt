@@ -9,21 +9,6 @@ use Rattle.frequency_buckets_decay.proofs.rebase_min_freq.Goals as goal
 pub rebase_min_freq-after-requires : goal.rebase_min_freq-after-requires
 rebase_min_freq-after-requires c = (_, _, _, _, public.checked _ _ _ _ c.refusal-why.ensures c.is_done.ensures c.if-is_done.true)
 
-pub shape_of-freqs-then-is_done : goal.shape_of-freqs-then-is_done
-shape_of-freqs-then-is_done c = c.rebase_min_freq-after.auto.freqs
-
-pub shape_of-prevs-then-is_done : goal.shape_of-prevs-then-is_done
-shape_of-prevs-then-is_done c = c.rebase_min_freq-after.auto.prevs
-
-pub shape_of-nexts-then-is_done : goal.shape_of-nexts-then-is_done
-shape_of-nexts-then-is_done c = c.rebase_min_freq-after.auto.nexts
-
-pub shape_of-buckets-then-is_done : goal.shape_of-buckets-then-is_done
-shape_of-buckets-then-is_done c = c.rebase_min_freq-after.auto.buckets
-
-pub shape_of-spares-then-is_done : goal.shape_of-spares-then-is_done
-shape_of-spares-then-is_done c = c.rebase_min_freq-after.auto.spares
-
 pub returns-then-is_done : goal.returns-then-is_done
 unfolding calls
 returns-then-is_done c =

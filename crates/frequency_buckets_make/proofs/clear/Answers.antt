@@ -10,30 +10,6 @@ use Rattle.frequency_buckets_make.proofs.clear.Goals as goal
 pub make-made-requires : goal.make-made-requires
 make-made-requires c = sound_fitting _ _ (public.checked _ _ _ _ c.refusal-why.ensures c.is_done.ensures c.if-is_done.true)
 
-pub shape_of-keys-then-is_done : goal.shape_of-keys-then-is_done
-shape_of-keys-then-is_done c = c.make-made.auto.keys
-
-pub shape_of-freqs-then-is_done : goal.shape_of-freqs-then-is_done
-shape_of-freqs-then-is_done c = c.make-made.auto.freqs
-
-pub shape_of-epochs-then-is_done : goal.shape_of-epochs-then-is_done
-shape_of-epochs-then-is_done c = c.make-made.auto.epochs
-
-pub shape_of-prevs-then-is_done : goal.shape_of-prevs-then-is_done
-shape_of-prevs-then-is_done c = c.make-made.auto.prevs
-
-pub shape_of-nexts-then-is_done : goal.shape_of-nexts-then-is_done
-shape_of-nexts-then-is_done c = c.make-made.auto.nexts
-
-pub shape_of-arena-then-is_done : goal.shape_of-arena-then-is_done
-shape_of-arena-then-is_done c = c.make-made.auto.arena
-
-pub shape_of-index-then-is_done : goal.shape_of-index-then-is_done
-shape_of-index-then-is_done c = c.make-made.auto.index
-
-pub shape_of-spares-then-is_done : goal.shape_of-spares-then-is_done
-shape_of-spares-then-is_done c = c.make-made.auto.spares
-
 pub returns-then-is_done : goal.returns-then-is_done
 unfolding calls
 returns-then-is_done c =

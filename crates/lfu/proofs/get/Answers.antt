@@ -7,24 +7,6 @@ use Rattle.lfu.proofs.get.Goals as goal
 pub get-requires : goal.get-requires
 get-requires c = (_, (public.checked _ _ _ _ c.refusal-why.ensures c.is_done.ensures c.if-is_done.true))
 
-pub shape_of-freqs-then-is_done : goal.shape_of-freqs-then-is_done
-shape_of-freqs-then-is_done c = c.get.auto.freqs
-
-pub shape_of-epochs-then-is_done : goal.shape_of-epochs-then-is_done
-shape_of-epochs-then-is_done c = c.get.auto.epochs
-
-pub shape_of-prevs-then-is_done : goal.shape_of-prevs-then-is_done
-shape_of-prevs-then-is_done c = c.get.auto.prevs
-
-pub shape_of-nexts-then-is_done : goal.shape_of-nexts-then-is_done
-shape_of-nexts-then-is_done c = c.get.auto.nexts
-
-pub shape_of-buckets-then-is_done : goal.shape_of-buckets-then-is_done
-shape_of-buckets-then-is_done c = c.get.auto.buckets
-
-pub shape_of-spares-then-is_done : goal.shape_of-spares-then-is_done
-shape_of-spares-then-is_done c = c.get.auto.spares
-
 pub returns-then-is_done : goal.returns-then-is_done
 returns-then-is_done c = public.does _ _ _ _ c.refusal-why.ensures c.is_done.ensures _ _ _ _ c.if-is_done.true (c.get.ensures _)
 

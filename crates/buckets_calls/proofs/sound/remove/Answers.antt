@@ -18,33 +18,6 @@ pub let_go-after-requires : goal.let_go-after-requires
 let_go-after-requires c =
     doing.found_bound _ _ _ _ c.requires (subst (Finds c.args.index.now c.args.keys.now c.args.key.0) c.in-At.is c.find.ensures)
 
-pub shape_of-keys-in-At : goal.shape_of-keys-in-At
-shape_of-keys-in-At c = c.let_go-after.auto.keys
-
-pub shape_of-freqs : goal.shape_of-freqs
-shape_of-freqs c = c.let_go-after.auto.freqs
-
-pub shape_of-epochs : goal.shape_of-epochs
-shape_of-epochs c = c.let_go-after.auto.epochs
-
-pub shape_of-prevs : goal.shape_of-prevs
-shape_of-prevs c = c.let_go-after.auto.prevs
-
-pub shape_of-nexts : goal.shape_of-nexts
-shape_of-nexts c = c.let_go-after.auto.nexts
-
-pub shape_of-arena : goal.shape_of-arena
-shape_of-arena c = c.let_go-after.auto.arena
-
-pub shape_of-index-in-At : goal.shape_of-index-in-At
-shape_of-index-in-At c = c.let_go-after.auto.index
-
-pub shape_of-buckets : goal.shape_of-buckets
-shape_of-buckets c = c.let_go-after.auto.buckets
-
-pub shape_of-spares : goal.shape_of-spares
-shape_of-spares c = c.let_go-after.auto.spares
-
 pub returns-in-At : goal.returns-in-At
 returns-in-At c =
     doing.remove_done _ _ _ _ _ (subst (Finds c.args.index.now c.args.keys.now c.args.key.0) c.in-At.is c.find.ensures) refl _ _ c.let_go-after.ensures

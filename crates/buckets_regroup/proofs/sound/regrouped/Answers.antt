@@ -10,21 +10,6 @@ regroup-records-requires c = some_lists _ _ c.requires
 pub lowest_frequency-lowest-requires : goal.lowest_frequency-lowest-requires
 lowest_frequency-lowest-requires c = lists_after _ _ _ _ _ c.regroup-records.ensures c.requires
 
-pub shape_of-freqs : goal.shape_of-freqs
-shape_of-freqs c = c.regroup-records.auto.freqs
-
-pub shape_of-prevs : goal.shape_of-prevs
-shape_of-prevs c = c.regroup-records.auto.prevs
-
-pub shape_of-nexts : goal.shape_of-nexts
-shape_of-nexts c = c.regroup-records.auto.nexts
-
-pub shape_of-buckets : goal.shape_of-buckets
-shape_of-buckets c = c.regroup-records.auto.buckets
-
-pub shape_of-spares : goal.shape_of-spares
-shape_of-spares c = c.regroup-records.auto.spares
-
 pub returns : goal.returns
 returns c =
     let kept = c.regroup-records.auto in

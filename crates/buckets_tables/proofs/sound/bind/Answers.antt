@@ -18,18 +18,6 @@ lowest_frequency-lowest-requires c = asked.room_lists _ _ _ c.requires _ _ _ _ _
 pub overflow_add-state : goal.overflow_add-state
 overflow_add-state c = let room = asked.room_count _ _ _ c.requires in search rules
 
-pub shape_of-keys : goal.shape_of-keys
-shape_of-keys c = c.enter_entry.auto.keys
-
-pub shape_of-epochs : goal.shape_of-epochs
-shape_of-epochs c = c.enter_entry.auto.epochs
-
-pub shape_of-arena : goal.shape_of-arena
-shape_of-arena c = c.take-taken.auto.arena
-
-pub shape_of-index : goal.shape_of-index
-shape_of-index c = c.enter_entry.auto.index
-
 pub returns : goal.returns
 returns c =
     let room = c.requires in

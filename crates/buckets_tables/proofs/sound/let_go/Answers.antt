@@ -18,30 +18,6 @@ lowest_frequency-lowest-requires c = asked.left_lists_sound _ _ _ c.requires _ _
 pub overflow_sub-state : goal.overflow_sub-state
 overflow_sub-state c = let some = asked.count_some _ _ _ c.requires in search rules
 
-pub shape_of-keys : goal.shape_of-keys
-shape_of-keys c = c.leave_entry.auto.keys
-
-pub shape_of-freqs : goal.shape_of-freqs
-shape_of-freqs c = c.unbind-records.auto.freqs
-
-pub shape_of-epochs : goal.shape_of-epochs
-shape_of-epochs c = c.leave_entry.auto.epochs
-
-pub shape_of-prevs : goal.shape_of-prevs
-shape_of-prevs c = c.unbind-records.auto.prevs
-
-pub shape_of-nexts : goal.shape_of-nexts
-shape_of-nexts c = c.unbind-records.auto.nexts
-
-pub shape_of-index : goal.shape_of-index
-shape_of-index c = c.leave_entry.auto.index
-
-pub shape_of-buckets : goal.shape_of-buckets
-shape_of-buckets c = c.unbind-records.auto.buckets
-
-pub shape_of-spares : goal.shape_of-spares
-shape_of-spares c = c.unbind-records.auto.spares
-
 pub returns : goal.returns
 returns c =
     let left = c.leave_entry in

@@ -40,30 +40,6 @@ pub let_go-after-requires : goal.let_go-after-requires
 let_go-after-requires c =
     asking.sought_bound _ _ _ _ (caching.sought_least _ _ _ (λ l h. c.lowest-slot.ensures.answer _ _ _ _ _ h.lists) c.if-slot-eq-NONE.false) (asking.base_sound _ _ c.requires)
 
-pub shape_of-keys : goal.shape_of-keys
-shape_of-keys c = c.let_go-after.auto.keys
-
-pub shape_of-freqs : goal.shape_of-freqs
-shape_of-freqs c = c.let_go-after.auto.freqs
-
-pub shape_of-epochs : goal.shape_of-epochs
-shape_of-epochs c = c.let_go-after.auto.epochs
-
-pub shape_of-prevs : goal.shape_of-prevs
-shape_of-prevs c = c.let_go-after.auto.prevs
-
-pub shape_of-nexts : goal.shape_of-nexts
-shape_of-nexts c = c.let_go-after.auto.nexts
-
-pub shape_of-arena : goal.shape_of-arena
-shape_of-arena c = c.let_go-after.auto.arena
-
-pub shape_of-index : goal.shape_of-index
-shape_of-index c = c.let_go-after.auto.index
-
-pub shape_of-buckets : goal.shape_of-buckets
-shape_of-buckets c = c.let_go-after.auto.buckets
-
 pub returns : goal.returns
 returns c =
     caching.evict_hit _ _ _ _ (caching.sought_least _ _ _ (λ l h. c.lowest-slot.ensures.answer _ _ _ _ _ h.lists) c.if-slot-eq-NONE.false) _ _ c.let_go-after.ensures

@@ -20,21 +20,6 @@ pub hit-hit-requires : goal.hit-hit-requires
 hit-hit-requires c =
     (c.args.keys.now, c.requires.0, c.args.index.now, doing.found_bound _ _ _ _ (asking.base_sound _ _ c.requires.1) (subst (Finds c.args.index.now c.args.keys.now c.args.key.0) c.in-At.is c.find.ensures))
 
-pub shape_of-freqs : goal.shape_of-freqs
-shape_of-freqs c = c.hit-hit.auto.freqs
-
-pub shape_of-epochs : goal.shape_of-epochs
-shape_of-epochs c = c.hit-hit.auto.epochs
-
-pub shape_of-prevs : goal.shape_of-prevs
-shape_of-prevs c = c.hit-hit.auto.prevs
-
-pub shape_of-nexts : goal.shape_of-nexts
-shape_of-nexts c = c.hit-hit.auto.nexts
-
-pub shape_of-buckets : goal.shape_of-buckets
-shape_of-buckets c = c.hit-hit.auto.buckets
-
 pub returns-in-At : goal.returns-in-At
 returns-in-At c =
     let at_slot = subst (Finds c.args.index.now c.args.keys.now c.args.key.0) c.in-At.is c.find.ensures in λ a. caching.get_hit _ _ _ _ _ (caching.sought_key _ _ _ _ at_slot) _ _ _ (doing.touch_done _ _ _ _ _ a _ _ _ _ _ _ _ _ refl (omega arith) at_slot _ _ _ _ _ _ _ c.hit-hit.ensures)

@@ -19,21 +19,6 @@ pub restart-after-requires : goal.restart-after-requires
 restart-after-requires c =
     (c.args.keys.now, c.requires.0, c.args.index.now, doing.found_bound _ _ _ _ c.requires.1 (subst (Finds c.args.index.now c.args.keys.now c.args.key.0) c.in-At.is c.find.ensures))
 
-pub shape_of-freqs : goal.shape_of-freqs
-shape_of-freqs c = c.restart-after.auto.freqs
-
-pub shape_of-epochs : goal.shape_of-epochs
-shape_of-epochs c = c.restart-after.auto.epochs
-
-pub shape_of-prevs : goal.shape_of-prevs
-shape_of-prevs c = c.restart-after.auto.prevs
-
-pub shape_of-nexts : goal.shape_of-nexts
-shape_of-nexts c = c.restart-after.auto.nexts
-
-pub shape_of-buckets : goal.shape_of-buckets
-shape_of-buckets c = c.restart-after.auto.buckets
-
 pub returns-in-At : goal.returns-in-At
 returns-in-At c =
     λ a vs. caching.reset_hit _ vs _ _ _ (caching.sought_key _ _ _ _ (subst (Finds c.args.index.now c.args.keys.now c.args.key.0) c.in-At.is c.find.ensures)) _ _ _ _ _ _ _ c.restart-after.ensures

@@ -24,30 +24,6 @@ pub replace-after-requires : goal.replace-after-requires
 replace-after-requires c =
     asking.out_replaceable _ _ _ _ c.requires.unbound.sound c.requires.unbound.missed c.requires.full (caching.sought_least _ _ _ (λ l h. c.lowest-slot.ensures.answer _ _ _ _ _ h.lists) c.if-slot-eq-NONE.false)
 
-pub shape_of-keys : goal.shape_of-keys
-shape_of-keys c = c.replace-after.auto.keys
-
-pub shape_of-freqs : goal.shape_of-freqs
-shape_of-freqs c = c.replace-after.auto.freqs
-
-pub shape_of-epochs : goal.shape_of-epochs
-shape_of-epochs c = c.replace-after.auto.epochs
-
-pub shape_of-prevs : goal.shape_of-prevs
-shape_of-prevs c = c.replace-after.auto.prevs
-
-pub shape_of-nexts : goal.shape_of-nexts
-shape_of-nexts c = c.replace-after.auto.nexts
-
-pub shape_of-arena : goal.shape_of-arena
-shape_of-arena c = c.replace-after.auto.arena
-
-pub shape_of-index : goal.shape_of-index
-shape_of-index c = c.replace-after.auto.index
-
-pub shape_of-buckets : goal.shape_of-buckets
-shape_of-buckets c = c.replace-after.auto.buckets
-
 pub returns : goal.returns
 returns c =
     λ vs v. inserting.insert_out _ vs _ _ v c.requires.unbound.missed c.requires.full _ (caching.sought_least _ _ _ (λ l h. c.lowest-slot.ensures.answer _ _ _ _ _ h.lists) c.if-slot-eq-NONE.false) _ _ c.replace-after.ensures

@@ -33,29 +33,5 @@ pub returns-in-At : goal.returns-in-At
 returns-in-At c =
     inserting.insert_old _ _ _ _ _ _ (caching.sought_key _ _ _ _ (subst (Finds c.args.index.now c.args.keys.now c.args.key.0) c.in-At.is c.find.ensures))
 
-pub shape_of-keys-in-Nothing : goal.shape_of-keys-in-Nothing
-shape_of-keys-in-Nothing c = c.enter-entered.auto.keys
-
-pub shape_of-freqs : goal.shape_of-freqs
-shape_of-freqs c = c.enter-entered.auto.freqs
-
-pub shape_of-epochs : goal.shape_of-epochs
-shape_of-epochs c = c.enter-entered.auto.epochs
-
-pub shape_of-prevs : goal.shape_of-prevs
-shape_of-prevs c = c.enter-entered.auto.prevs
-
-pub shape_of-nexts : goal.shape_of-nexts
-shape_of-nexts c = c.enter-entered.auto.nexts
-
-pub shape_of-arena : goal.shape_of-arena
-shape_of-arena c = c.enter-entered.auto.arena
-
-pub shape_of-index-in-Nothing : goal.shape_of-index-in-Nothing
-shape_of-index-in-Nothing c = c.enter-entered.auto.index
-
-pub shape_of-buckets : goal.shape_of-buckets
-shape_of-buckets c = c.enter-entered.auto.buckets
-
 pub returns-in-Nothing : goal.returns-in-Nothing
 returns-in-Nothing c = cached.cache_stored _ _ _ _ _ _ _ _ c.store.ensures (c.enter-entered.ensures _ _)

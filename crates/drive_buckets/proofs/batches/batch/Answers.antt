@@ -5,85 +5,13 @@ use Rattle.drive_buckets.specs.Operations.{batch_call}
 use Rattle.drive_buckets.proofs.Driving.{made, sent, no_batch}
 use Rattle.drive_buckets.proofs.batches.batch.Goals as goal
 
-pub shape_of-k-in-60 : goal.shape_of-k-in-60
-shape_of-k-in-60 c = c.insert_batch.auto.keys
-
-pub shape_of-f-in-60 : goal.shape_of-f-in-60
-shape_of-f-in-60 c = c.insert_batch.auto.freqs
-
-pub shape_of-e-in-60 : goal.shape_of-e-in-60
-shape_of-e-in-60 c = c.insert_batch.auto.epochs
-
-pub shape_of-p-in-60 : goal.shape_of-p-in-60
-shape_of-p-in-60 c = c.insert_batch.auto.prevs
-
-pub shape_of-n-in-60 : goal.shape_of-n-in-60
-shape_of-n-in-60 c = c.insert_batch.auto.nexts
-
-pub shape_of-ar-in-60 : goal.shape_of-ar-in-60
-shape_of-ar-in-60 c = c.insert_batch.auto.arena
-
-pub shape_of-ix-in-60 : goal.shape_of-ix-in-60
-shape_of-ix-in-60 c = c.insert_batch.auto.index
-
-pub shape_of-bk-in-60 : goal.shape_of-bk-in-60
-shape_of-bk-in-60 c = c.insert_batch.auto.buckets
-
-pub shape_of-sp-in-60 : goal.shape_of-sp-in-60
-shape_of-sp-in-60 c = c.insert_batch.auto.spares
-
 pub returns-in-60 : goal.returns-in-60
 returns-in-60 c =
     made _ _ _ _ _ (λ (m : ℕ). batch_call m c.args.items.now) _ 60 _ refl c.in-60.is (count_reply c.insert_batch.result.answer) c.insert_batch.result.state c.counted.ensures.0 c.counted.ensures.1 c.insert_batch.ensures
 
-pub shape_of-f-in-61 : goal.shape_of-f-in-61
-shape_of-f-in-61 c = c.touch_batch.auto.freqs
-
-pub shape_of-e-in-61 : goal.shape_of-e-in-61
-shape_of-e-in-61 c = c.touch_batch.auto.epochs
-
-pub shape_of-p-in-61 : goal.shape_of-p-in-61
-shape_of-p-in-61 c = c.touch_batch.auto.prevs
-
-pub shape_of-n-in-61 : goal.shape_of-n-in-61
-shape_of-n-in-61 c = c.touch_batch.auto.nexts
-
-pub shape_of-bk-in-61 : goal.shape_of-bk-in-61
-shape_of-bk-in-61 c = c.touch_batch.auto.buckets
-
-pub shape_of-sp-in-61 : goal.shape_of-sp-in-61
-shape_of-sp-in-61 c = c.touch_batch.auto.spares
-
 pub returns-in-61 : goal.returns-in-61
 returns-in-61 c =
     made _ _ _ _ _ (λ (m : ℕ). batch_call m c.args.items.now) _ 61 _ refl c.in-61.is (count_reply c.touch_batch.result.answer) c.touch_batch.result.state c.counted-in-61.ensures.0 c.counted-in-61.ensures.1 c.touch_batch.ensures
-
-pub shape_of-k-in-62 : goal.shape_of-k-in-62
-shape_of-k-in-62 c = c.remove_batch.auto.keys
-
-pub shape_of-f-in-62 : goal.shape_of-f-in-62
-shape_of-f-in-62 c = c.remove_batch.auto.freqs
-
-pub shape_of-e-in-62 : goal.shape_of-e-in-62
-shape_of-e-in-62 c = c.remove_batch.auto.epochs
-
-pub shape_of-p-in-62 : goal.shape_of-p-in-62
-shape_of-p-in-62 c = c.remove_batch.auto.prevs
-
-pub shape_of-n-in-62 : goal.shape_of-n-in-62
-shape_of-n-in-62 c = c.remove_batch.auto.nexts
-
-pub shape_of-ar-in-62 : goal.shape_of-ar-in-62
-shape_of-ar-in-62 c = c.remove_batch.auto.arena
-
-pub shape_of-ix-in-62 : goal.shape_of-ix-in-62
-shape_of-ix-in-62 c = c.remove_batch.auto.index
-
-pub shape_of-bk-in-62 : goal.shape_of-bk-in-62
-shape_of-bk-in-62 c = c.remove_batch.auto.buckets
-
-pub shape_of-sp-in-62 : goal.shape_of-sp-in-62
-shape_of-sp-in-62 c = c.remove_batch.auto.spares
 
 pub returns-in-62 : goal.returns-in-62
 returns-in-62 c =

@@ -6,9 +6,6 @@ use Rattle.drive_buckets.specs.Operations.{epoch_call}
 use Rattle.drive_buckets.proofs.Driving.{made, sent, no_epoch}
 use Rattle.drive_buckets.proofs.cases.dates.Goals as goal
 
-pub shape_of-e-in-10 : goal.shape_of-e-in-10
-shape_of-e-in-10 c = c.set_entry_epoch.auto.epochs
-
 pub returns-in-10 : goal.returns-in-10
 returns-in-10 c =
     made _ _ _ _ _ (λ (m : ℕ). epoch_call m c.args.a c.args.b) _ 10 _ refl c.in-10.is (plain_reply c.set_entry_epoch.result) _ (ap text c.stays.ensures.0 ∙ c.plain.ensures) c.stays.ensures.1 c.set_entry_epoch.ensures

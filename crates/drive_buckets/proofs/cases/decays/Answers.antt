@@ -5,65 +5,17 @@ use Rattle.drive_buckets.specs.Operations.{decay_call}
 use Rattle.drive_buckets.proofs.Driving.{made, sent, no_decay}
 use Rattle.drive_buckets.proofs.cases.decays.Goals as goal
 
-pub shape_of-f-in-17 : goal.shape_of-f-in-17
-shape_of-f-in-17 c = c.decay_halve.auto.freqs
-
-pub shape_of-p-in-17 : goal.shape_of-p-in-17
-shape_of-p-in-17 c = c.decay_halve.auto.prevs
-
-pub shape_of-n-in-17 : goal.shape_of-n-in-17
-shape_of-n-in-17 c = c.decay_halve.auto.nexts
-
-pub shape_of-bk-in-17 : goal.shape_of-bk-in-17
-shape_of-bk-in-17 c = c.decay_halve.auto.buckets
-
-pub shape_of-sp-in-17 : goal.shape_of-sp-in-17
-shape_of-sp-in-17 c = c.decay_halve.auto.spares
-
 pub returns-in-17 : goal.returns-in-17
 returns-in-17 c =
     made _ _ _ _ _ (λ (m : ℕ). decay_call m c.args.a c.args.b) _ 17 _ refl c.in-17.is (plain_reply c.decay_halve.result.answer) c.decay_halve.result.state c.stored.ensures.0 c.stored.ensures.1 c.decay_halve.ensures
-
-pub shape_of-f-in-18 : goal.shape_of-f-in-18
-shape_of-f-in-18 c = c.rebase_min_freq.auto.freqs
-
-pub shape_of-p-in-18 : goal.shape_of-p-in-18
-shape_of-p-in-18 c = c.rebase_min_freq.auto.prevs
-
-pub shape_of-n-in-18 : goal.shape_of-n-in-18
-shape_of-n-in-18 c = c.rebase_min_freq.auto.nexts
-
-pub shape_of-bk-in-18 : goal.shape_of-bk-in-18
-shape_of-bk-in-18 c = c.rebase_min_freq.auto.buckets
-
-pub shape_of-sp-in-18 : goal.shape_of-sp-in-18
-shape_of-sp-in-18 c = c.rebase_min_freq.auto.spares
 
 pub returns-in-18 : goal.returns-in-18
 returns-in-18 c =
     made _ _ _ _ _ (λ (m : ℕ). decay_call m c.args.a c.args.b) _ 18 _ refl c.in-18.is (plain_reply c.rebase_min_freq.result.answer) c.rebase_min_freq.result.state c.stored-in-18.ensures.0 c.stored-in-18.ensures.1 c.rebase_min_freq.ensures
 
-pub shape_of-f-in-22 : goal.shape_of-f-in-22
-shape_of-f-in-22 c = c.decay_halve_times.auto.freqs
-
-pub shape_of-p-in-22 : goal.shape_of-p-in-22
-shape_of-p-in-22 c = c.decay_halve_times.auto.prevs
-
-pub shape_of-n-in-22 : goal.shape_of-n-in-22
-shape_of-n-in-22 c = c.decay_halve_times.auto.nexts
-
-pub shape_of-bk-in-22 : goal.shape_of-bk-in-22
-shape_of-bk-in-22 c = c.decay_halve_times.auto.buckets
-
-pub shape_of-sp-in-22 : goal.shape_of-sp-in-22
-shape_of-sp-in-22 c = c.decay_halve_times.auto.spares
-
 pub returns-in-22 : goal.returns-in-22
 returns-in-22 c =
     made _ _ _ _ _ (λ (m : ℕ). decay_call m c.args.a c.args.b) _ 22 _ refl c.in-22.is (plain_reply c.decay_halve_times.result.answer) c.decay_halve_times.result.state c.stored-in-22.ensures.0 c.stored-in-22.ensures.1 c.decay_halve_times.ensures
-
-pub shape_of-e-in_default : goal.shape_of-e-in_default
-shape_of-e-in_default c = c.dates.auto.e
 
 pub returns-in_default : goal.returns-in_default
 returns-in_default c =

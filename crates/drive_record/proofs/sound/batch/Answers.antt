@@ -25,69 +25,12 @@ pub slice_bounds-keys-end : goal.slice_bounds-keys-end
 slice_bounds-keys-end c =
     let more = c.surplus-more.ensures in let small = c.if-b-more.false in let room = c.requires in let size = values_size (c.args.b + c.surplus-more.result) c.args.items.now c.fill.new.items (omega arith) c.fill.auto.items in sym (length-take-le c.args.b _ (omega arith))
 
-pub shape_of-k-then-code-lt63 : goal.shape_of-k-then-code-lt63
-shape_of-k-then-code-lt63 c = c.batch.auto.k
-
-pub shape_of-f-then-code-lt63 : goal.shape_of-f-then-code-lt63
-shape_of-f-then-code-lt63 c = c.batch.auto.f
-
-pub shape_of-e-then-code-lt63 : goal.shape_of-e-then-code-lt63
-shape_of-e-then-code-lt63 c = c.batch.auto.e
-
-pub shape_of-p-then-code-lt63 : goal.shape_of-p-then-code-lt63
-shape_of-p-then-code-lt63 c = c.batch.auto.p
-
-pub shape_of-n-then-code-lt63 : goal.shape_of-n-then-code-lt63
-shape_of-n-then-code-lt63 c = c.batch.auto.n
-
-pub shape_of-ar-then-code-lt63 : goal.shape_of-ar-then-code-lt63
-shape_of-ar-then-code-lt63 c = c.batch.auto.ar
-
-pub shape_of-ix-then-code-lt63 : goal.shape_of-ix-then-code-lt63
-shape_of-ix-then-code-lt63 c = c.batch.auto.ix
-
-pub shape_of-bk-then-code-lt63 : goal.shape_of-bk-then-code-lt63
-shape_of-bk-then-code-lt63 c = c.batch.auto.bk
-
-pub shape_of-sp-then-code-lt63 : goal.shape_of-sp-then-code-lt63
-shape_of-sp-then-code-lt63 c = c.batch.auto.sp
-
 pub shape_of-items-then-code-lt63 : goal.shape_of-items-then-code-lt63
 shape_of-items-then-code-lt63 c = length_front c.args.items.now c.fill.new.items (c.args.b + c.surplus-more.result) c.fill.auto.items
 
 pub returns-then-code-lt63 : goal.returns-then-code-lt63
 returns-then-code-lt63 c =
     let more = c.surplus-more.ensures in let small = c.if-b-more.false in let room = c.requires in batched_bucket c.args.code c.args.a c.args.b _ _ _ _ _ c.surplus-more.result c.surplus-more.ensures.0 (omega arith) _ (keys_lent c.args.a c.args.b (c.args.b + c.surplus-more.result) _ (omega arith) (values_lent (c.args.b + c.surplus-more.result) c.args.items.now c.fill.new.items (omega arith) c.fill.auto.items c.args.a c.fill.ensures)) c.if-code-lt63.true c.batch.ensures refl
-
-pub shape_of-k : goal.shape_of-k
-shape_of-k c = c.batch-2.auto.k
-
-pub shape_of-f : goal.shape_of-f
-shape_of-f c = c.batch-2.auto.f
-
-pub shape_of-e : goal.shape_of-e
-shape_of-e c = c.batch-2.auto.e
-
-pub shape_of-p : goal.shape_of-p
-shape_of-p c = c.batch-2.auto.p
-
-pub shape_of-n : goal.shape_of-n
-shape_of-n c = c.batch-2.auto.n
-
-pub shape_of-ar : goal.shape_of-ar
-shape_of-ar c = c.batch-2.auto.ar
-
-pub shape_of-ix : goal.shape_of-ix
-shape_of-ix c = c.batch-2.auto.ix
-
-pub shape_of-bk : goal.shape_of-bk
-shape_of-bk c = c.batch-2.auto.bk
-
-pub shape_of-sp : goal.shape_of-sp
-shape_of-sp c = c.batch-2.auto.sp
-
-pub shape_of-vs : goal.shape_of-vs
-shape_of-vs c = c.batch-2.auto.vs
 
 pub shape_of-items : goal.shape_of-items
 shape_of-items c = length_front c.args.items.now c.fill.new.items (c.args.b + c.surplus-more.result) c.fill.auto.items

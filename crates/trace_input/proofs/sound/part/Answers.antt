@@ -13,36 +13,6 @@ overflow_sub-n c = c.feed-fed.ensures.begun
 pub close-at-requires : goal.close-at-requires
 close-at-requires c = let w = c.requires in omega (arith, w.2, c.feed-fed.ensures.room, c.feed-fed.auto.out)
 
-pub shape_of-keys : goal.shape_of-keys
-shape_of-keys c = c.feed-fed.auto.keys
-
-pub shape_of-freqs : goal.shape_of-freqs
-shape_of-freqs c = c.feed-fed.auto.freqs
-
-pub shape_of-epochs : goal.shape_of-epochs
-shape_of-epochs c = c.feed-fed.auto.epochs
-
-pub shape_of-prevs : goal.shape_of-prevs
-shape_of-prevs c = c.feed-fed.auto.prevs
-
-pub shape_of-nexts : goal.shape_of-nexts
-shape_of-nexts c = c.feed-fed.auto.nexts
-
-pub shape_of-arena : goal.shape_of-arena
-shape_of-arena c = c.feed-fed.auto.arena
-
-pub shape_of-index : goal.shape_of-index
-shape_of-index c = c.feed-fed.auto.index
-
-pub shape_of-buckets : goal.shape_of-buckets
-shape_of-buckets c = c.feed-fed.auto.buckets
-
-pub shape_of-spares : goal.shape_of-spares
-shape_of-spares c = c.feed-fed.auto.spares
-
-pub shape_of-values : goal.shape_of-values
-shape_of-values c = c.feed-fed.auto.values
-
 pub shape_of-out : goal.shape_of-out
 shape_of-out c = c.close-at.auto.out ∙ c.feed-fed.auto.out
 

@@ -32,17 +32,11 @@ shape_of-arena c = c.part-printed.auto.arena ∙ c.make-state.auto.arena
 pub shape_of-index : goal.shape_of-index
 shape_of-index c = c.part-printed.auto.index ∙ c.make-state.auto.index
 
-pub shape_of-buckets : goal.shape_of-buckets
-shape_of-buckets c = c.part-printed.auto.buckets
-
 pub shape_of-spares : goal.shape_of-spares
 shape_of-spares c = c.part-printed.auto.spares ∙ c.make-state.auto.spares
 
 pub shape_of-values : goal.shape_of-values
 shape_of-values c = c.part-printed.auto.values ∙ c.make-state.auto.values
-
-pub shape_of-out : goal.shape_of-out
-shape_of-out c = c.part-printed.auto.out
 
 pub returns : goal.returns
 returns c = part_all _ _ _ _ _ _ c.part-printed.ensures _ (c.make-state.ensures _ c.requires.0.base.buckets_size)

@@ -37,8 +37,5 @@ slice_bounds-afresh-end-10 c = zeros_size 256 _ c.requires.0
 pub afresh-requires : goal.afresh-requires
 afresh-requires c = (start_sizes _ c.requires.0, c.requires.1)
 
-pub shape_of-out : goal.shape_of-out
-shape_of-out c = c.afresh.auto.out
-
 pub returns : goal.returns
 returns c = c.afresh.ensures
