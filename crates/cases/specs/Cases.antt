@@ -3,7 +3,6 @@ use Rattle.std.specs.Prelude.{List, [], ◌∷◌, ◌++◌, map, ℕ, zero, suc
 use Rattle.std.proofs.Math.Option.{Option, none, some}
 use Prim.Native.Char.{code}
 use Prim.Native.String.{String}
-use Prim.Native.String
 use Rattle.numbers.specs.Marks.{NONE}
 use Rattle.numbers.specs.Frequency.{CEILING}
 use Rattle.numbers.specs.declared.Answer.TheVariants.{Present, Full, Empty}

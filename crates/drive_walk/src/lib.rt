@@ -2,5 +2,4 @@
 // may be any.
 #![tactic(auto)]
 
-
 pub mod sound;

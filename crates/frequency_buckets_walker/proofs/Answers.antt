@@ -21,7 +21,7 @@ use Rattle.buckets_tables.specs.Lent as lent
 use Rattle.answers.specs.declared.Step.{Step}
 use Rattle.answers.specs.declared.Step.TheVariants as step
 use Rattle.answers.specs.declared.Reached.{Reached}
-use Rattle.answers.specs.declared.Reached.TheVariants.{At, NoMore, Refused}
+use Rattle.answers.specs.declared.Reached.TheVariants.{At, Refused}
 use Rattle.answers.specs.Replies.{step_reply, reached_reply}
 use Rattle.buckets_walk.specs.declared.After.{After}
 use Rattle.buckets_walk.specs.declared.After.TheVariants as link

@@ -16,7 +16,7 @@ use Rattle.links.proofs.Lists.{ring_once, ring_frame}
 use Rattle.bucket_table.specs.declared.Buckets.{Buckets}
 use Rattle.bucket_table.specs.Records.{Row, row, nums, lower, owner, InTable, EndsAt, RecordsHold}
 use Rattle.bucket_table.specs.Calls.{SetEnds, Dropping, Drops}
-use Rattle.bucket_table.proofs.Rows.{nums_append, row_used, below_row, room}
+use Rattle.bucket_table.proofs.Rows.{nums_append, row_used, below_row}
 use Rattle.levels.specs.Levels.{Level, level, Nowhere, keep}
 use Rattle.levels.specs.Held.{Tabs, tabs, Line, line, rows, Missing, Free, Even, Lines, Some, Held, Parted}
 use Rattle.levels.specs.Calls.{Frees, SlotBound, LevelLeaves}

@@ -2,7 +2,7 @@
 use Rattle.std.proofs.Common.{◌≡◌, ℕ, ◌<◌, ◌≤◌, ◌≢◌, ◌⊎◌, List, [], ◌∷◌, ◌++◌, length, set, sym, refl, ap, ◌∙◌, subst, inl, inr, append_assoc, append-nil, arith, length-append, get_or-set_other, get_or-set_same}
 use Rattle.numbers.specs.Marks.{NONE}
 use Rattle.lists.specs.Lists.{All, Without, Distinct, final}
-use Rattle.lists.proofs.Members.{all_map, all_any, final_in}
+use Rattle.lists.proofs.Members.{all_map, final_in}
 use Rattle.lists.proofs.Pigeonhole.{distinct_few}
 use Rattle.links.specs.Chain.{Chain, Walked, cells}
 

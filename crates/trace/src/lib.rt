@@ -2,7 +2,6 @@
 // stands in `input`, writing a line into a buffer in `sound`.
 #![tactic(auto)]
 
-
 pub mod input;
 pub mod sound;
 

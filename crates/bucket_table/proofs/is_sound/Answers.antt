@@ -1,6 +1,4 @@
 -- The arena's check, the size, and the walk with as many records as the arena has slots in use.
-use borrow.Author.Tests.{not-true, not-false}
-use borrow.Author.Rules.{rules}
 use Rattle.lists.proofs.Tests.{says_no, said_no}
 use Rattle.bucket_table.proofs.is_sound.Goals as goal
 

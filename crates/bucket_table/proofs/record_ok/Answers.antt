@@ -1,8 +1,6 @@
 -- One test for each part of what is asked.
 use mathlib.Core.Path.{◌∙◌}
 use native.Mathlib.Omega.{arith}
-use borrow.Author.Tests.{not-true, not-false}
-use borrow.Author.Rules.{rules}
 use Rattle.lists.proofs.Tests.{says_no, said_no}
 use Rattle.bucket_table.proofs.Checks as laws
 use Rattle.bucket_table.proofs.record_ok.Goals as goal

@@ -1,6 +1,4 @@
 -- The records passed are the beginning of all rows that there may be; `left` counts down.
-use borrow.Author.Rules.{rules}
-use borrow.Author.Tests.{not-true, not-false}
 use Rattle.lists.proofs.Tests.{said_no}
 use Rattle.bucket_table.proofs.Checks as laws
 use Rattle.bucket_table.proofs.walk.Goals as goal

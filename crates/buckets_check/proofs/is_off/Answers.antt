@@ -1,5 +1,4 @@
 -- One test for each table.
-use borrow.Author.Rules.{rules}
 use Rattle.lists.proofs.Tests.{says_no, said_no}
 use Rattle.buckets_check.proofs.Steps.{decides}
 use Rattle.buckets_check.proofs.is_off.Goals as goal

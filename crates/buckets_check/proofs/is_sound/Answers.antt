@@ -1,7 +1,5 @@
 -- Each part has its own check; the last test decides where all others said yes.
 use mathlib.Core.Path.{sym, ◌∙◌}
-use borrow.Author.Rules.{rules}
-use borrow.Author.Tests.{not-true, not-false}
 use Rattle.lists.proofs.Tests.{says_no, said_no}
 use Rattle.buckets_check.proofs.Wanted.{wanted}
 use Rattle.buckets_check.proofs.Steps.{beside, lowest_decides}

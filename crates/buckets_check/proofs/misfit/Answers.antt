@@ -1,7 +1,5 @@
 -- One test for each way not to fit, in the order of document 01.
 use mathlib.Core.Path.{refl}
-use borrow.Author.Rules.{rules}
-use borrow.Author.Tests.{not-true, not-false}
 use Rattle.lists.proofs.Tests.{said_no}
 use Rattle.promise.specs.Making.{too_large, too_short, fitting}
 use Rattle.buckets_check.proofs.Steps as steps

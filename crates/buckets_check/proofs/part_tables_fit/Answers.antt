@@ -1,5 +1,4 @@
 -- One test for each table.
-use borrow.Author.Rules.{rules}
 use Rattle.lists.proofs.Tests.{says_no}
 use Rattle.buckets_check.proofs.Steps.{decides}
 use Rattle.buckets_check.proofs.part_tables_fit.Goals as goal

@@ -1,7 +1,5 @@
 -- The lengths first; only tables that fit are looked into.
 use mathlib.Core.Path.{refl}
-use borrow.Author.Rules.{rules}
-use borrow.Author.Tests.{not-true, not-false}
 use Rattle.promise.proofs.Makings.{misfits}
 use Rattle.buckets_tables.specs.Lent.{buckets}
 use Rattle.buckets_check.proofs.Sizes as sizes

@@ -1,6 +1,4 @@
 -- By the mark in the lists: the other tables are to say the same.
-use borrow.Author.Rules.{rules}
-use borrow.Author.Tests.{not-true, not-false}
 use Rattle.lists.proofs.Tests.{says_no, said_no}
 use Rattle.buckets_check.proofs.Steps.{agree_free, agree_bound, not_marked}
 use Rattle.buckets_check.proofs.slot_agrees.Goals as goal

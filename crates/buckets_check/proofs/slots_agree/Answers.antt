@@ -1,13 +1,8 @@
 -- The tables agree on all slots passed.
 use mathlib.Core.Path.{refl}
-use Prim.Native.Nat.{◌≤◌, ◌-◌}
 use native.Mathlib.Omega.{arith}
-use lib.ListN.{length}
 use borrow.Author.Count.{below_none, below_more}
-use borrow.Author.Tests.{not-true, not-false}
-use borrow.Author.Rules.{rules}
 use Rattle.lists.proofs.Tests.{says_no, said_no}
-use Rattle.buckets_check.specs.Check.{AgreeBelow}
 use Rattle.buckets_check.proofs.slots_agree.Goals as goal
 
 pub loop-slot-init : goal.loop-slot-init

@@ -1,5 +1,4 @@
 -- The table of values first; where it has the right length, the other tables decide.
-use borrow.Author.Rules.{rules}
 use Rattle.cache_check.proofs.Values as laws
 use Rattle.cache_check.proofs.misfit.Goals as goal
 

@@ -1,7 +1,5 @@
 -- The lengths first, that of the values before the others; then the buckets' own check, and the values of the free slots.
 use mathlib.Core.Path.{refl}
-use borrow.Author.Rules.{rules}
-use borrow.Author.Tests.{not-true, not-false}
 use Rattle.cache_check.proofs.Values as laws
 use Rattle.cache_check.proofs.refusal.Goals as goal
 

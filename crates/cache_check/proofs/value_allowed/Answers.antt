@@ -1,6 +1,5 @@
 -- A slot in use may have any value; else the value decides.
 use mathlib.Core.Path.{refl}
-use borrow.Author.Rules.{rules}
 use Rattle.lists.proofs.Tests.{said_no}
 use Rattle.buckets_check.proofs.Steps.{decides}
 use Rattle.cache_check.proofs.value_allowed.Goals as goal

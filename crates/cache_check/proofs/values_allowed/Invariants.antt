@@ -1,12 +1,6 @@
 -- All slots passed have values that they may have.
-use mathlib.Core.Path.{refl}
 use Prim.Native.Nat.{◌≤◌, ◌-◌}
-use native.Mathlib.Omega.{arith}
 use lib.ListN.{length}
-use borrow.Author.Count.{below_none, below_more}
-use borrow.Author.Tests.{not-true, not-false}
-use borrow.Author.Rules.{rules}
-use Rattle.lists.proofs.Tests.{says_no, said_no}
 use Rattle.cache_check.specs.Check.{AllowedBelow}
 use Rattle.cache_check.proofs.values_allowed.Given as goal
 

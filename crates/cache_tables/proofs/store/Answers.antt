@@ -1,7 +1,6 @@
 -- A slot outside the table leaves it, as the list's own store does.
 use mathlib.Core.Path.{sym}
 use lib.Seq.{set_out}
-use borrow.Author.Rules.{rules}
 use Rattle.cache_tables.proofs.store.Goals as goal
 
 pub returns-else-s-values : goal.returns-else-s-values

@@ -1,7 +1,6 @@
 -- By whether there are two bytes.
 use mathlib.Core.Path.{ap, ◌∙◌}
 use native.Mathlib.Omega.{arith}
-use borrow.Author.Rules.{rules}
 use Rattle.drive.specs.declared.Header.TheVariants.{Capacity}
 use Rattle.drive.proofs.Beginning.{too_few, both_read}
 use Rattle.drive.proofs.header_of.Goals as goal

@@ -2,7 +2,6 @@
 use lib.Seq.{length-take-le}
 use native.Mathlib.Omega.{arith}
 use mathlib.Core.Path.{sym}
-use borrow.Author.Rules.{rules}
 use Rattle.drive.proofs.say.Goals as goal
 
 pub slice_bounds-write_all-end : goal.slice_bounds-write_all-end

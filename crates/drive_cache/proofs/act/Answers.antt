@@ -1,5 +1,4 @@
 -- Each arm is the call of its number; the last one asks.
-use mathlib.Core.Path.{refl}
 use Rattle.ledger.specs.History.{Get, Remove, Reset, Evict, Clear}
 use Rattle.drive_cache.proofs.Driving.{called, bound, acted, acted_else}
 use Rattle.drive_cache.proofs.act.Goals as goal

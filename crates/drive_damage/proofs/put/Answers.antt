@@ -1,7 +1,6 @@
 -- The place is inside or outside by the test.
 use mathlib.Core.Path.{refl}
 use native.Mathlib.Omega.{arith}
-use borrow.Author.Rules.{rules}
 use Rattle.drive_damage.proofs.put.Goals as goal
 
 pub returns-then-t-at : goal.returns-then-t-at

@@ -1,6 +1,5 @@
 -- Each arm stores into the table of its number.
 use mathlib.Core.Path.{refl}
-use borrow.Author.Rules.{rules}
 use Rattle.drive_damage.proofs.Damaging.{none_of_ten, damaged, damaged_none}
 use Rattle.drive_damage.proofs.store.Goals as goal
 

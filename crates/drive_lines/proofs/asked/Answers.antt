@@ -1,6 +1,5 @@
 -- By the answer's case; yes is 1 and no is 0.
 use mathlib.Core.Path.{sym, ap, ◌∙◌}
-use borrow.Author.Rules.{rules}
 use Rattle.answers.specs.declared.Asked.{Asked}
 use Rattle.answers.specs.Replies.{asked_reply}
 use Rattle.drive_lines.specs.Lines.{reply_text}

@@ -1,6 +1,5 @@
 -- By the answer's case.
 use mathlib.Core.Path.{sym, ap}
-use borrow.Author.Rules.{rules}
 use Rattle.answers.specs.declared.Count.{Count}
 use Rattle.answers.specs.Replies.{count_reply}
 use Rattle.drive_lines.specs.Lines.{reply_text}

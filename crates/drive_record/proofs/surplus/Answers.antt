@@ -1,5 +1,4 @@
 -- By the test.
-use mathlib.Core.Path.{refl}
 use native.Mathlib.Omega.{arith}
 use borrow.Author.Tests.{eq-eqb, ne_eqb}
 use Rattle.drive_record.proofs.surplus.Goals as goal

@@ -1,6 +1,5 @@
 -- Each table is as long after all calls as it was before the first: what the calls keep, one after another.
 use mathlib.Core.Path.{◌∙◌}
-use borrow.Author.Rules.{rules}
 use Rattle.first_steps.proofs.leaves.Goals as goal
 
 pub shape_of-k : goal.shape_of-k

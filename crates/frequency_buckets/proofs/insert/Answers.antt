@@ -1,6 +1,4 @@
 -- Checked, then done on sound tables; or refused by the check, with nothing changed.
-use mathlib.Core.Path.{refl}
-use borrow.Author.Rules.{rules}
 use Rattle.ledger.specs.BucketCalls.{calls, Insert}
 use Rattle.buckets_tables.proofs.Public as public
 use Rattle.buckets_calls.proofs.Plain.{plain_refused}

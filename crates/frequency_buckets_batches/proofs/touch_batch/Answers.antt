@@ -1,6 +1,5 @@
 -- Checked, then done on sound tables; or refused by the check, with nothing changed.
 use mathlib.Core.Path.{refl}
-use borrow.Author.Rules.{rules}
 use Rattle.ledger.specs.BucketCalls.{calls, TouchBatch}
 use Rattle.buckets_tables.proofs.Public as public
 use Rattle.frequency_buckets_batches.proofs.touch_batch.Goals as goal

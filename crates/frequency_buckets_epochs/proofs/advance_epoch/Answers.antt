@@ -1,6 +1,5 @@
 -- Checked, then done on sound tables; or refused by the check, with nothing changed.
 use mathlib.Core.Path.{refl}
-use borrow.Author.Rules.{rules}
 use Rattle.ledger.specs.BucketCalls.{calls, AdvanceEpoch}
 use Rattle.buckets_tables.proofs.Public as public
 use Rattle.frequency_buckets_epochs.proofs.advance_epoch.Goals as goal

@@ -1,5 +1,4 @@
 -- Checked, then done on sound tables; or refused by the check, with nothing changed.
-use borrow.Author.Rules.{rules}
 use Rattle.ledger.specs.BucketCalls.{calls, SetEntryEpoch}
 use Rattle.buckets_tables.proofs.Public as public
 use Rattle.buckets_reads.proofs.Asking as asking

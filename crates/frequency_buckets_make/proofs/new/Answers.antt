@@ -1,6 +1,4 @@
 -- The lengths first; then the tables are made, or nothing is.
-use mathlib.Core.Path.{refl}
-use borrow.Author.Rules.{rules}
 use Rattle.buckets_calls.proofs.Plain.{plain_refused}
 use Rattle.frequency_buckets_make.proofs.News as news
 use Rattle.frequency_buckets_make.proofs.new.Goals as goal

@@ -1,6 +1,5 @@
 -- Checked, then told by the entry.
 use mathlib.Core.Path.{refl}
-use borrow.Author.Rules.{rules}
 use Rattle.ledger.specs.BucketCalls.{asks, EntryEpoch}
 use Rattle.buckets_tables.proofs.Public as public
 use Rattle.buckets_reads.proofs.Asking as asking

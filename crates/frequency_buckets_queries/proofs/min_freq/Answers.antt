@@ -1,6 +1,5 @@
 -- Checked, then told by the state.
 use mathlib.Core.Path.{refl}
-use borrow.Author.Rules.{rules}
 use Rattle.ledger.specs.BucketCalls.{asks, MinFreq}
 use Rattle.buckets_tables.proofs.Public as public
 use Rattle.frequency_buckets_queries.proofs.min_freq.Goals as goal

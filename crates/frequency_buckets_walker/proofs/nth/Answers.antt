@@ -1,9 +1,6 @@
 -- One place on for each step; a walker that has answered a refusal is where it would be after all of them.
 use mathlib.Core.Path.{sym, ◌∙◌}
-use Prim.Native.Nat.{◌-◌}
 use native.Mathlib.Omega.{arith}
-use borrow.Author.Rules.{rules}
-use Rattle.buckets_tables.specs.Tables.{tables}
 use Rattle.frequency_buckets_walker.proofs.Places as laws
 use Rattle.frequency_buckets_walker.proofs.Places.{Gone}
 use Rattle.frequency_buckets_walker.proofs.nth.Goals as goal

@@ -1,12 +1,9 @@
 -- Each word that was passed is as a cleared index has it.
-use borrow.Author.Rules.{rules}
-use Prim.Native.Nat.{ℕ, ◌/◌, ◌≤◌, ◌<◌, ◌-◌}
 use native.Mathlib.Omega.{arith}
-use mathlib.Core.Path.{◌≡◌, refl, sym}
-use lib.ListN.{length, get_or, length-set}
+use mathlib.Core.Path.{refl, sym}
+use lib.ListN.{length-set}
 use borrow.Author.Count.{below_none}
 use Rattle.lists.proofs.Stores.{stored_more}
-use Rattle.key_index.specs.Cleared.{cleared_cell}
 use Rattle.key_index.proofs.Cleared.{cleared}
 use Rattle.key_index.proofs.clear.Goals as goal
 

@@ -1,13 +1,8 @@
 -- Each word that was passed is as a cleared index has it.
-use borrow.Author.Rules.{rules}
 use Prim.Native.Nat.{ℕ, ◌/◌, ◌≤◌, ◌<◌, ◌-◌}
-use native.Mathlib.Omega.{arith}
-use mathlib.Core.Path.{◌≡◌, refl, sym}
-use lib.ListN.{length, get_or, length-set}
-use borrow.Author.Count.{below_none}
-use Rattle.lists.proofs.Stores.{stored_more}
+use mathlib.Core.Path.{◌≡◌}
+use lib.ListN.{length, get_or}
 use Rattle.key_index.specs.Cleared.{cleared_cell}
-use Rattle.key_index.proofs.Cleared.{cleared}
 use Rattle.key_index.proofs.clear.Given as goal
 
 abbrev pub invariant-loop-i : goal.invariant-loop-i

@@ -1,17 +1,13 @@
 -- The law of a walk of one class, with the slots met so far, how many they are, and the last of them.
-use borrow.Author.Rules.{rules}
-use Prim.Native.Nat.{ℕ, ◌≤◌, ◌-◌}
 use native.Mathlib.Omega.{arith}
-use mathlib.Core.Path.{◌≡◌, refl, sym, ◌∙◌}
-use mathlib.Core.Logic.{⊎_elim}
-use mathlib.Core.List.{List, [], ◌∷◌, ◌++◌}
-use lib.ListN.{length, length-append}
-use borrow.Author.Tests.{ltb-false, ltb-true, not-true, not-false}
+use mathlib.Core.Path.{refl, sym, ◌∙◌}
+use mathlib.Core.List.{[], ◌∷◌, ◌++◌}
+use lib.ListN.{length-append}
+use borrow.Author.Tests.{ltb-true}
 use Rattle.numbers.specs.Marks.{NONE}
-use Rattle.lists.specs.Lists.{final}
 use Rattle.lists.proofs.Tests.{neither}
 use Rattle.lists.proofs.Members.{final_append}
-use Rattle.key_index.proofs.Check.{Meeting, meet_none, meet_more, meet_follows, meet_listed, meet_fault}
+use Rattle.key_index.proofs.Check.{meet_none, meet_more, meet_follows, meet_listed, meet_fault}
 use Rattle.key_index.proofs.count_class.Goals as goal
 use Rattle.key_index.proofs.count_class.Goals.{then-loop-at-test+else-steps-capacity, else-loop-at-test}
 
@@ -58,7 +54,7 @@ returns c =
     meet_fault _ _ _ inv.2.0 _ pre.0 inv.2.3
     (λ b.
     elim c.loop-at-test.branch [
-      then-loop-at-test+else-steps-capacity w ↦ omega (arith, inv.2.1)
-    | else-loop-at-test w ↦ omega (arith, inv.2.1)
+      | then-loop-at-test+else-steps-capacity w ↦ omega (arith, inv.2.1)
+      | else-loop-at-test w ↦ omega (arith, inv.2.1)
     ])
     c.if-at-eq-NONE.false

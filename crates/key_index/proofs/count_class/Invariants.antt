@@ -1,17 +1,11 @@
 -- The law of a walk of one class, with the slots met so far, how many they are, and the last of them.
-use borrow.Author.Rules.{rules}
 use Prim.Native.Nat.{ℕ, ◌≤◌, ◌-◌}
-use native.Mathlib.Omega.{arith}
-use mathlib.Core.Path.{◌≡◌, refl, sym, ◌∙◌}
-use mathlib.Core.Logic.{⊎_elim}
-use mathlib.Core.List.{List, [], ◌∷◌, ◌++◌}
-use lib.ListN.{length, length-append}
-use borrow.Author.Tests.{ltb-false, ltb-true, not-true, not-false}
+use mathlib.Core.Path.{◌≡◌}
+use mathlib.Core.List.{List}
+use lib.ListN.{length}
 use Rattle.numbers.specs.Marks.{NONE}
 use Rattle.lists.specs.Lists.{final}
-use Rattle.lists.proofs.Tests.{neither}
-use Rattle.lists.proofs.Members.{final_append}
-use Rattle.key_index.proofs.Check.{Meeting, meet_none, meet_more, meet_follows, meet_listed, meet_fault}
+use Rattle.key_index.proofs.Check.{Meeting}
 use Rattle.key_index.proofs.count_class.Given as goal
 
 abbrev pub invariant-loop-at : goal.invariant-loop-at

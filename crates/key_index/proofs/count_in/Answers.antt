@@ -1,9 +1,6 @@
 -- The slots counted so far are those below i.
-use borrow.Author.Rules.{rules}
-use Prim.Native.Nat.{◌≤◌, ◌-◌}
 use native.Mathlib.Omega.{arith}
 use mathlib.Core.Path.{◌≡◌, refl, ap, ◌∙◌}
-use mathlib.Core.Logic.{⊎_elim}
 use mathlib.Core.Bool.{not}
 use lib.ListN.{length}
 use borrow.Author.Tests.{eq-eqb, ne_eqb}
@@ -24,9 +21,9 @@ loop-i-preserved c =
     let i = c.loop-i.i in
     let more = count_more (marked index keys) i in
     elim c.if-index-capacity-ne-OUT.branch [
-      then-index-capacity-ne-OUT w ↦
+      | then-index-capacity-ne-OUT w ↦
           (refl, omega arith, omega arith, omega (arith, ap (λ b. mark (not b)) (ne_eqb (link_of index keys i) OUT w.if-index-capacity-ne-OUT.true)))
-    | else-index-capacity-ne-OUT w ↦
+      | else-index-capacity-ne-OUT w ↦
           (refl, omega arith, omega arith, omega (arith, ap (λ b. mark (not b)) (eq-eqb (link_of index keys i) OUT w.if-index-capacity-ne-OUT.false)))
     ]
 

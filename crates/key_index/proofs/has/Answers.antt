@@ -1,5 +1,4 @@
 -- The test of the word is the mark itself.
-use borrow.Author.Rules.{rules}
 use native.Mathlib.Omega.{arith}
 use Rattle.lists.proofs.Tests.{says_no}
 use Rattle.key_index.proofs.Check.{has_test}

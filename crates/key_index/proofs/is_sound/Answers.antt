@@ -1,9 +1,6 @@
 -- Each test that fails says no; the counts decide what is left.
-use borrow.Author.Rules.{rules}
-use mathlib.Core.Path.{subst}
 use native.Mathlib.Omega.{arith}
 use Rattle.lists.proofs.Tests.{says_no}
-use Rattle.key_index.specs.Check.{CountsAll}
 use Rattle.key_index.proofs.Check.{counts}
 use Rattle.key_index.proofs.is_sound.Goals as goal
 

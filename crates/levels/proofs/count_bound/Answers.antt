@@ -1,9 +1,7 @@
 -- The slots passed are counted.
 use mathlib.Core.Path.{◌≡◌, refl, sym, ap, ◌∙◌}
-use Prim.Native.Nat.{ℕ, ◌+◌, ◌≤◌, ◌-◌}
+use Prim.Native.Nat.{ℕ, ◌+◌}
 use native.Mathlib.Omega.{arith}
-use borrow.Author.Rules.{rules}
-use mathlib.Core.Logic.{⊎_elim}
 use lib.ListN.{length}
 use Rattle.lists.specs.Marks.{count}
 use Rattle.lists.proofs.Pigeonhole.{count_le}
@@ -19,15 +17,14 @@ pub overflow_add-bound : goal.overflow_add-bound
 overflow_add-bound c = let e = c.loop-s.invariant.1 in omega (arith, count_le (taken c.args.nexts.now) c.loop-s.s)
 
 pub loop-s-preserved : goal.loop-s-preserved
-loop-s-preserved c =
-    (
-      omega arith,
-      elim c.if-nexts-s.branch [
-        then-nexts-s w ↦
-            w.bound-is ∙ ap (λ (k : ℕ). k + 1) c.loop-s.invariant.1 ∙ sym (laws.count_taken c.args.nexts.now c.loop-s.s w.if-nexts-s.true)
-      | else-nexts-s w ↦ w.bound-is ∙ c.loop-s.invariant.1 ∙ sym (laws.count_free c.args.nexts.now c.loop-s.s w.if-nexts-s.false)
-      ],
-    )
+loop-s-preserved c = (
+  omega arith,
+  elim c.if-nexts-s.branch [
+    | then-nexts-s w ↦
+        w.bound-is ∙ ap (λ (k : ℕ). k + 1) c.loop-s.invariant.1 ∙ sym (laws.count_taken c.args.nexts.now c.loop-s.s w.if-nexts-s.true)
+    | else-nexts-s w ↦ w.bound-is ∙ c.loop-s.invariant.1 ∙ sym (laws.count_free c.args.nexts.now c.loop-s.s w.if-nexts-s.false)
+  ],
+)
 
 pub returns : goal.returns
 returns c =

@@ -1,13 +1,8 @@
 -- The slots passed are counted.
-use mathlib.Core.Path.{◌≡◌, refl, sym, ap, ◌∙◌}
-use Prim.Native.Nat.{ℕ, ◌+◌, ◌≤◌, ◌-◌}
-use native.Mathlib.Omega.{arith}
-use borrow.Author.Rules.{rules}
-use mathlib.Core.Logic.{⊎_elim}
+use mathlib.Core.Path.{◌≡◌}
+use Prim.Native.Nat.{◌≤◌, ◌-◌}
 use lib.ListN.{length}
 use Rattle.lists.specs.Marks.{count}
-use Rattle.lists.proofs.Pigeonhole.{count_le}
-use Rattle.levels.proofs.Checks as laws
 use Rattle.levels.specs.Check.{taken}
 use Rattle.levels.proofs.count_bound.Given as goal
 

@@ -1,12 +1,6 @@
 -- All slots passed are clean.
-use native.Mathlib.Omega.{arith}
-use borrow.Author.Rules.{rules}
-use borrow.Author.Tests.{not-true, not-false}
 use Prim.Native.Nat.{◌≤◌, ◌-◌}
 use lib.ListN.{length}
-use borrow.Author.Count.{below_none, below_more}
-use mathlib.Core.Path.{refl}
-use Rattle.lists.proofs.Tests.{says_no, said_no}
 use Rattle.levels.specs.Check.{Clean}
 use Rattle.levels.proofs.is_clean.Given as goal
 

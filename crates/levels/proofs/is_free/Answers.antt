@@ -1,6 +1,5 @@
 -- The cell is compared, if there is one.
 use native.Mathlib.Omega.{arith}
-use borrow.Author.Rules.{rules}
 use Rattle.lists.proofs.Tests.{says_no}
 use Rattle.levels.proofs.Answers as laws
 use Rattle.levels.proofs.is_free.Goals as goal

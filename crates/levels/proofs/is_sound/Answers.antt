@@ -1,7 +1,5 @@
 -- The sizes, the records, the marks, and the walk that meets as many slots as are not marked free.
 use native.Mathlib.Omega.{arith}
-use borrow.Author.Tests.{not-true, not-false}
-use borrow.Author.Rules.{rules}
 use Rattle.lists.proofs.Tests.{says_no, said_no}
 use Rattle.levels.proofs.Checks as laws
 use Rattle.levels.proofs.is_sound.Goals as goal

@@ -1,6 +1,5 @@
 -- One test for each cell of a slot that is marked free.
 use mathlib.Core.Path.{refl}
-use borrow.Author.Rules.{rules}
 use Rattle.lists.proofs.Tests.{says_no}
 use Rattle.levels.proofs.Checks as laws
 use Rattle.levels.proofs.slot_clean.Goals as goal

@@ -1,6 +1,5 @@
 -- One test for each part of what is asked.
 use native.Mathlib.Omega.{arith}
-use borrow.Author.Rules.{rules}
 use Rattle.lists.proofs.Tests.{says_no}
 use Rattle.levels.proofs.Walks as laws
 use Rattle.levels.proofs.slot_ok.Goals as goal

@@ -1,6 +1,5 @@
 -- The lines passed are the beginning of all lines; the walk ends since the frequencies rise.
-use borrow.Author.Tests.{not-true, not-false}
-use Rattle.bucket_table.proofs.Places.{rise, next_in, rise_less}
+use Rattle.bucket_table.proofs.Places.{rise}
 use Rattle.levels.proofs.Checks as laws
 use Rattle.levels.proofs.walk_levels.Given as goal
 

@@ -1,7 +1,5 @@
 -- The slots passed are the beginning of the list, and each was tested; `n` counts down, and what it has lost at the end is the record's count.
 use native.Mathlib.Omega.{arith}
-use borrow.Author.Rules.{rules}
-use borrow.Author.Tests.{not-true, not-false}
 use Rattle.lists.proofs.Tests.{said_no}
 use Rattle.levels.proofs.Walks as laws
 use Rattle.levels.proofs.walk_list.Goals as goal

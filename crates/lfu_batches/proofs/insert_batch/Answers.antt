@@ -1,6 +1,5 @@
 -- Checked, the two slices too, then done on sound tables; or refused by the check, with nothing changed.
 use mathlib.Core.Path.{refl}
-use borrow.Author.Rules.{rules}
 use Rattle.lfu_batches.proofs.Uneven as uneven
 use Rattle.lfu_batches.proofs.insert_batch.Goals as goal
 

@@ -1,5 +1,4 @@
 -- The slices' lengths first, with the answer that lengths have; then the tables.
-use borrow.Author.Rules.{rules}
 use Rattle.lfu_batches.proofs.refusal.Goals as goal
 
 pub returns-then-items-given : goal.returns-then-items-given

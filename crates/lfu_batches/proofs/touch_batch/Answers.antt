@@ -1,6 +1,5 @@
 -- Checked, then done on sound tables; or refused by the check, with nothing changed.
 use mathlib.Core.Path.{refl}
-use borrow.Author.Rules.{rules}
 use Rattle.cache_tables.proofs.Public as public
 use Rattle.cache_tables.proofs.Asking.{base_sound}
 use Rattle.lfu_batches.proofs.Touching.{touches_all}

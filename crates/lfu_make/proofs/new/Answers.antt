@@ -1,6 +1,4 @@
 -- The lengths first; then the tables are made, or nothing is.
-use mathlib.Core.Path.{refl}
-use borrow.Author.Rules.{rules}
 use Rattle.buckets_calls.proofs.Plain.{plain_refused}
 use Rattle.lfu_make.proofs.News as news
 use Rattle.lfu_make.proofs.new.Goals as goal

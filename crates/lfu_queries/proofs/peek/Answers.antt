@@ -1,6 +1,5 @@
 -- Checked, then told by the key's slot.
 use mathlib.Core.Path.{refl}
-use borrow.Author.Rules.{rules}
 use Rattle.ledger.proofs.CacheRefusals.{peek_asks}
 use Rattle.cache_tables.proofs.Public as public
 use Rattle.lfu_queries.proofs.Asking as asking

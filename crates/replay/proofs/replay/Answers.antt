@@ -1,6 +1,5 @@
 -- A header that begins has a capacity that the tables have places for.
 use mathlib.Core.Path.{sym, ◌∙◌}
-use borrow.Author.Rules.{rules}
 use Rattle.trace.proofs.Beginning.{begins_fits}
 use Rattle.replay.proofs.replay.Goals as goal
 

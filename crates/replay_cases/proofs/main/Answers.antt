@@ -1,5 +1,4 @@
 -- The buffers are large.
-use borrow.Author.Rules.{rules}
 use Rattle.trace_input.proofs.Sizes.{large_buffers}
 use Rattle.replay_cases.proofs.main.Goals as goal
 

@@ -1,9 +1,6 @@
 -- The slots counted so far are those below i.
-use borrow.Author.Rules.{rules}
-use Prim.Native.Nat.{◌≤◌, ◌-◌}
 use native.Mathlib.Omega.{arith}
 use mathlib.Core.Path.{◌≡◌, ap, ◌∙◌}
-use mathlib.Core.Logic.{⊎_elim}
 use lib.ListN.{length, get_or}
 use borrow.Author.Tests.{eq-eqb, ne_eqb}
 use Rattle.lists.specs.Marks.{mark, count}
@@ -19,8 +16,8 @@ loop-i-preserved c =
     let i = c.loop-i.i in
     let more = count_more (marked t) i in
     elim c.if-arena-i-eq-USED.branch [
-      then-arena-i-eq-USED w ↦ omega (arith, ap mark (eq-eqb (get_or t i 0) USED w.if-arena-i-eq-USED.true))
-    | else-arena-i-eq-USED w ↦ omega (arith, ap mark (ne_eqb (get_or t i 0) USED w.if-arena-i-eq-USED.false))
+      | then-arena-i-eq-USED w ↦ omega (arith, ap mark (eq-eqb (get_or t i 0) USED w.if-arena-i-eq-USED.true))
+      | else-arena-i-eq-USED w ↦ omega (arith, ap mark (ne_eqb (get_or t i 0) USED w.if-arena-i-eq-USED.false))
     ]
 
 pub returns : goal.returns

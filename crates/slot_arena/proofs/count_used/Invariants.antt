@@ -1,14 +1,8 @@
 -- The slots counted so far are those below i.
-use borrow.Author.Rules.{rules}
 use Prim.Native.Nat.{◌≤◌, ◌-◌}
-use native.Mathlib.Omega.{arith}
-use mathlib.Core.Path.{◌≡◌, ap, ◌∙◌}
-use mathlib.Core.Logic.{⊎_elim}
-use lib.ListN.{length, get_or}
-use borrow.Author.Tests.{eq-eqb, ne_eqb}
-use Rattle.lists.specs.Marks.{mark, count}
-use Rattle.lists.proofs.Pigeonhole.{count_more}
-use Rattle.slot_arena.specs.Arena.{USED}
+use mathlib.Core.Path.{◌≡◌}
+use lib.ListN.{length}
+use Rattle.lists.specs.Marks.{count}
 use Rattle.slot_arena.specs.Check.{marked}
 use Rattle.slot_arena.proofs.count_used.Given as goal
 

@@ -1,5 +1,4 @@
 -- The test of the cell is the mark itself.
-use borrow.Author.Rules.{rules}
 use native.Mathlib.Omega.{arith}
 use borrow.Author.Tests.{eq-eqb, eqb-true}
 use Rattle.lists.proofs.Tests.{says_no}

@@ -1,5 +1,4 @@
 -- Each test that fails says no; the counts decide what is left.
-use borrow.Author.Rules.{rules}
 use native.Mathlib.Omega.{arith}
 use Rattle.lists.proofs.Tests.{says_no}
 use Rattle.slot_arena.proofs.Check.{not_ended, other_last, counts_fit, counts}

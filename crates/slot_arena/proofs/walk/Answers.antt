@@ -1,16 +1,13 @@
 -- The law of a walk of a chain, with the slots passed so far, how many they are, and the last of them.
 use borrow.Author.Rules.{rules}
-use Prim.Native.Nat.{ℕ, ◌≤◌, ◌-◌}
 use native.Mathlib.Omega.{arith}
-use mathlib.Core.Path.{◌≡◌, refl, ◌∙◌}
-use mathlib.Core.List.{List, [], ◌∷◌, ◌++◌}
-use lib.ListN.{length, length-append}
+use mathlib.Core.Path.{refl, ◌∙◌}
+use mathlib.Core.List.{[], ◌∷◌, ◌++◌}
+use lib.ListN.{length-append}
 use borrow.Author.Tests.{ltb-false, ltb-true}
 use Rattle.numbers.specs.Marks.{NONE}
-use Rattle.lists.specs.Lists.{final}
 use Rattle.lists.proofs.Members.{final_append}
-use Rattle.links.specs.Chain.{cells}
-use Rattle.links.proofs.Chains.{Walking, walk_none, walk_more, walk_done}
+use Rattle.links.proofs.Chains.{walk_none, walk_more, walk_done}
 use Rattle.slot_arena.proofs.walk.Goals as goal
 
 pub loop-at-init : goal.loop-at-init

@@ -1,5 +1,4 @@
 -- The record above `at` has the frequency, or a new one is made.
-use borrow.Author.Rules.{rules}
 use Rattle.lists.proofs.Tests.{said_no}
 use Rattle.bucket_table.proofs.Places as laws
 use Rattle.bucket_table.proofs.sound.ensure.Goals as goal

@@ -1,5 +1,4 @@
 -- The ring's law for a record that comes in after `at`, and the arena's for one that is taken.
-use borrow.Author.Rules.{rules}
 use Rattle.bucket_table.proofs.Steps as laws
 use Rattle.bucket_table.proofs.sound.make.Goals as goal
 

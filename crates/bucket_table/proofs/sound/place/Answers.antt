@@ -1,9 +1,8 @@
 -- All rows passed are below the frequency; it ends since the frequencies rise.
 use native.Mathlib.Omega.{arith}
-use mathlib.Core.Path.{◌≡◌, refl}
+use mathlib.Core.Path.{refl}
 use mathlib.Core.List.{[]}
 use Rattle.bucket_table.proofs.Places as laws
-use Rattle.bucket_table.specs.declared.Buckets.{Buckets}
 use Rattle.bucket_table.proofs.sound.place.Goals as goal
 
 pub loop-number-init : goal.loop-number-init

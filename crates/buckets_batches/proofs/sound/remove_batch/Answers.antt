@@ -1,10 +1,7 @@
 -- Each item is one removal more, and the count takes in its answer.
 use mathlib.Core.Path.{sym, ◌∙◌}
-use Prim.Native.Nat.{◌-◌}
 use native.Mathlib.Omega.{arith}
-use lib.ListN.{length}
 use borrow.Author.Rules.{rules}
-use Rattle.buckets_tables.specs.Tables.{tables}
 use Rattle.answers.specs.Replies.{level_reply}
 use Rattle.buckets_batches.proofs.Batching as laws
 use Rattle.buckets_batches.proofs.Batching.{Batching, removes}

@@ -1,11 +1,7 @@
 -- Each item is one touch more, and the count takes in its answer; whatever the arena, which is not lent.
 use mathlib.Core.Path.{sym, ◌∙◌}
-use mathlib.Core.List.{List}
-use Prim.Native.Nat.{ℕ, ◌-◌}
 use native.Mathlib.Omega.{arith}
-use lib.ListN.{length}
 use borrow.Author.Rules.{rules}
-use Rattle.buckets_tables.specs.Tables.{tables}
 use Rattle.answers.specs.Replies.{level_reply}
 use Rattle.buckets_batches.proofs.Batching as laws
 use Rattle.buckets_batches.proofs.Batching.{Batching, touches}

@@ -1,6 +1,5 @@
 -- PRESENT and FULL leave all; else the key is bound in the first free slot.
-use mathlib.Core.Path.{refl, subst}
-use borrow.Author.Rules.{rules}
+use mathlib.Core.Path.{subst}
 use Rattle.key_index.specs.Index.{Finds}
 use Rattle.buckets_tables.proofs.Doing as doing
 use Rattle.buckets_calls.proofs.sound.insert.Goals as goal

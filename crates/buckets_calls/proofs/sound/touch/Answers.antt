@@ -1,7 +1,6 @@
 -- A bound key is hit where the index finds it.
 use mathlib.Core.Path.{subst}
 use native.Mathlib.Omega.{arith}
-use borrow.Author.Rules.{rules}
 use Rattle.key_index.specs.Index.{Finds}
 use Rattle.buckets_tables.proofs.Doing as doing
 use Rattle.buckets_calls.proofs.sound.touch.Goals as goal

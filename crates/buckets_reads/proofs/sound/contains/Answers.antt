@@ -1,6 +1,5 @@
 -- The key is bound exactly where the index finds it.
 use mathlib.Core.Path.{subst}
-use borrow.Author.Rules.{rules}
 use Rattle.key_index.specs.Index.{Finds}
 use Rattle.buckets_reads.proofs.Telling as telling
 use Rattle.buckets_reads.proofs.sound.contains.Goals as goal

@@ -1,5 +1,4 @@
 -- By the kind of change.
-use borrow.Author.Rules.{rules}
 use native.Mathlib.Omega.{arith}
 use Rattle.buckets_regroup.proofs.Change.of.Goals as goal
 

@@ -1,5 +1,4 @@
 -- The frequency stays, or the slot leaves and enters at the place above `last`.
-use borrow.Author.Rules.{rules}
 use mathlib.Core.Path.{◌∙◌}
 use Rattle.buckets_regroup.proofs.Changes.{changed_lowers}
 use Rattle.buckets_regroup.proofs.Falling as laws

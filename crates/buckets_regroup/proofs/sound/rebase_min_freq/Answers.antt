@@ -1,5 +1,4 @@
 -- Nothing is to be done, or one change of all levels.
-use borrow.Author.Rules.{rules}
 use Rattle.buckets_regroup.proofs.Regrouping.{rebase_none, rebases}
 use Rattle.buckets_regroup.proofs.sound.rebase_min_freq.Goals as goal
 

@@ -1,12 +1,10 @@
 -- Some levels are done and the others are left; it ends since each turn leaves fewer slots.
-use mathlib.Core.Path.{refl, ◌∙◌}
 use mathlib.Core.List.{List}
 use Rattle.levels.specs.Levels.{Level}
 use Rattle.levels.specs.Held.{tabs, Held}
 use Rattle.buckets_regroup.specs.Change.{changed}
-use Rattle.buckets_regroup.proofs.Changes.{changed_lowers}
-use Rattle.buckets_regroup.proofs.Turns.{SameSizes, Midway, midway_start, midway_end, turn, midway_in}
-use Rattle.buckets_regroup.proofs.Remaining.{remaining, tail_in, own_spot, midway_on, fewer_remain}
+use Rattle.buckets_regroup.proofs.Turns.{SameSizes, Midway}
+use Rattle.buckets_regroup.proofs.Remaining.{remaining}
 use Rattle.buckets_regroup.proofs.sound.regroup.Given as goal
 
 abbrev pub invariant-loop-number : goal.invariant-loop-number

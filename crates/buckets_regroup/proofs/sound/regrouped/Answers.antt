@@ -1,5 +1,4 @@
 -- The lists are regrouped, and the lowest frequency is read again.
-use borrow.Author.Rules.{rules}
 use Rattle.buckets_regroup.proofs.Changes.{changed_lowers}
 use Rattle.buckets_regroup.proofs.Regrouping.{some_lists, lists_after, regroup_does}
 use Rattle.buckets_regroup.proofs.sound.regrouped.Goals as goal

@@ -1,5 +1,5 @@
 -- `advanced` goes to the next epoch: the sum wraps as the definition does.
-use Rattle.std.proofs.Common.{ap, rules}
+use Rattle.std.proofs.Common.{ap}
 use Rattle.buckets_tables.specs.Calls.{dated}
 use Rattle.buckets_tables.proofs.State.advanced.Goals as goal
 

@@ -1,5 +1,4 @@
 -- Keys and epochs are wiped, there is no list, the index is empty and all slots are free: `made` says that the tables hold a new ledger then.
-use Rattle.std.proofs.Common.{rules}
 use Rattle.buckets_tables.proofs.Clearing.{fitting_even, fitting_arena, made}
 use Rattle.buckets_tables.proofs.sound.make.Goals as goal
 

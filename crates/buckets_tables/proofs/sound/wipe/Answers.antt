@@ -1,6 +1,6 @@
 -- `wipe`: what was passed is 0.
-use Rattle.std.proofs.Common.{◌-◌, length, arith, length-set, rules}
-use Rattle.buckets_tables.proofs.Clearing.{Wiping, wiping_start, wiping_more, wiping_end}
+use Rattle.std.proofs.Common.{arith, length-set, rules}
+use Rattle.buckets_tables.proofs.Clearing.{wiping_start, wiping_more, wiping_end}
 use Rattle.buckets_tables.proofs.sound.wipe.Goals as goal
 
 pub loop-i-init : goal.loop-i-init

@@ -1,6 +1,5 @@
 -- The cell of the slot, if there is one, says it all.
 use native.Mathlib.Omega.{arith}
-use borrow.Author.Rules.{rules}
 use Rattle.lists.proofs.Tests.{said_no}
 use Rattle.buckets_walk.proofs.Walking as laws
 use Rattle.buckets_walk.proofs.sound.next.Goals as goal

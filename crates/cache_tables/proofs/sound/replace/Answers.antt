@@ -1,6 +1,5 @@
 -- Letting go frees the slot that binding then takes.
 use mathlib.Core.Path.{◌∙◌}
-use borrow.Author.Rules.{rules}
 use Rattle.cache_tables.proofs.Replacing as replacing
 use Rattle.cache_tables.proofs.sound.replace.Goals as goal
 

@@ -1,5 +1,5 @@
 -- The calls ask for nothing, and keep every length.
-use mathlib.Core.Path.{refl, ◌∙◌}
+use mathlib.Core.Path.{◌∙◌}
 use Rattle.drive.proofs.sound.begin.Goals as goal
 
 pub shape_of-k-then-is_done : goal.shape_of-k-then-is_done

@@ -1,11 +1,8 @@
 -- Record by record, while there is room to print.
-use mathlib.Core.Path.{refl, ◌∙◌}
 use Prim.Native.Nat.{◌-◌}
-use native.Mathlib.Omega.{arith}
-use borrow.Author.Tests.{leb-true, leb-false}
 use Rattle.buckets_tables.specs.Tables.{tables}
 use Rattle.cache_tables.specs.Tables.{with_values}
-use Rattle.drive.proofs.Turning.{Feeding, feeding_start, feeding_room, feeding_more, left_none, feeding_end}
+use Rattle.drive.proofs.Turning.{Feeding}
 use Rattle.drive.proofs.sound.feed.Given as goal
 
 abbrev pub invariant-loop-next : goal.invariant-loop-next

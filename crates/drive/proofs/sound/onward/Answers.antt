@@ -2,7 +2,6 @@
 use mathlib.Core.Path.{refl, sym}
 use native.Mathlib.Omega.{arith}
 use lib.Seq.{length-take-le}
-use borrow.Author.Rules.{rules}
 use Rattle.trace_input.proofs.Sizes.{read_fits}
 use Rattle.drive.specs.Turns.{DRIVE_PART}
 use Rattle.drive.proofs.sound.onward.Goals as goal

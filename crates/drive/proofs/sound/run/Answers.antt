@@ -3,10 +3,8 @@ use mathlib.Core.Path.{sym, ◌∙◌}
 use Prim.Native.Nat.{ℕ}
 use native.Mathlib.Omega.{arith}
 use lib.ListN.{length-replicate}
-use Rattle.buckets_tables.specs.Tables.{tables}
-use Rattle.cache_tables.specs.Tables.{with_values}
 use Rattle.trace_input.proofs.Feeding.{sizes_then}
-use Rattle.drive.proofs.Turning.{Running, running_start}
+use Rattle.drive.proofs.Turning.{running_start}
 use Rattle.drive.proofs.sound.run.Goals as goal
 
 pub loop-turns-init : goal.loop-turns-init

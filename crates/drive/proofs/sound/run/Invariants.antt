@@ -1,12 +1,7 @@
 -- Tables and buffers keep their lengths from turn to turn.
-use mathlib.Core.Path.{sym, ◌∙◌}
-use Prim.Native.Nat.{ℕ}
-use native.Mathlib.Omega.{arith}
-use lib.ListN.{length-replicate}
 use Rattle.buckets_tables.specs.Tables.{tables}
 use Rattle.cache_tables.specs.Tables.{with_values}
-use Rattle.trace_input.proofs.Feeding.{sizes_then}
-use Rattle.drive.proofs.Turning.{Running, running_start}
+use Rattle.drive.proofs.Turning.{Running}
 use Rattle.drive.proofs.sound.run.Given as goal
 
 abbrev pub invariant-loop-turns : goal.invariant-loop-turns

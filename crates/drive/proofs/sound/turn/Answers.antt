@@ -1,5 +1,5 @@
 -- Records are carried out and what they print is written; or the input goes on.
-use mathlib.Core.Path.{refl, sym}
+use mathlib.Core.Path.{sym}
 use native.Mathlib.Omega.{arith}
 use lib.Seq.{length-take-le}
 use Rattle.drive.proofs.Turning.{turned_waits, turned_served}

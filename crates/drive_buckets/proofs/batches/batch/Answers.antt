@@ -1,5 +1,5 @@
 -- The operation names the call of its arm; where it names none, it is BAD.
-use Rattle.std.proofs.Common.{ℕ, refl, rules}
+use Rattle.std.proofs.Common.{ℕ, refl}
 use Rattle.answers.specs.Replies.{count_reply}
 use Rattle.drive_buckets.specs.Operations.{batch_call}
 use Rattle.drive_buckets.proofs.Driving.{made, sent, no_batch}

@@ -1,6 +1,6 @@
 -- Key by key: those so far and those to come are all of them.
-use Rattle.std.proofs.Common.{◌-◌, length, rules}
-use Rattle.drive_buckets.proofs.Keys.{Filling, filling_start, filling_more, filling_end}
+use Rattle.std.proofs.Common.{rules}
+use Rattle.drive_buckets.proofs.Keys.{filling_start, filling_more, filling_end}
 use Rattle.drive_buckets.proofs.batches.fill.Goals as goal
 
 pub loop-j-init : goal.loop-j-init

@@ -1,5 +1,5 @@
 -- The operation names the call of its arm; where it names none, it is BAD.
-use Rattle.std.proofs.Common.{ℕ, refl, rules}
+use Rattle.std.proofs.Common.{ℕ, refl}
 use Rattle.answers.specs.Replies.{level_reply, least_reply, epoch_reply, count_reply, asked_reply}
 use Rattle.drive_buckets.specs.Operations.{query_call}
 use Rattle.drive_buckets.proofs.Driving.{made, sent, no_query}

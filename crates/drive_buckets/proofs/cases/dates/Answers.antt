@@ -1,5 +1,5 @@
 -- The operation names the call of its arm; where it names none of them, it only answers, or it is BAD.
-use Rattle.std.proofs.Common.{ℕ, refl, ap, ◌∙◌, rules}
+use Rattle.std.proofs.Common.{ℕ, refl, ap, ◌∙◌}
 use Rattle.answers.specs.Replies.{epoch_reply, plain_reply}
 use Rattle.drive_lines.specs.Lines.{text}
 use Rattle.drive_buckets.specs.Operations.{epoch_call}

@@ -1,5 +1,5 @@
 -- The operation is clearing, or it is sent on.
-use Rattle.std.proofs.Common.{ℕ, refl, rules}
+use Rattle.std.proofs.Common.{ℕ, refl}
 use Rattle.answers.specs.Replies.{plain_reply}
 use Rattle.drive_buckets.specs.Operations.{whole_call}
 use Rattle.drive_buckets.proofs.Driving.{made, sent, not_whole}

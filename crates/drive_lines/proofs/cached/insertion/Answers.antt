@@ -1,6 +1,5 @@
 -- By the answer's case.
 use mathlib.Core.Path.{sym, ap}
-use borrow.Author.Rules.{rules}
 use Rattle.drive_lines.specs.Lines.{insertion_text}
 use Rattle.drive_lines.proofs.cached.insertion.Goals as goal
 

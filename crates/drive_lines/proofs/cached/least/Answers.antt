@@ -1,6 +1,5 @@
 -- By the answer's case.
 use mathlib.Core.Path.{sym, ap}
-use borrow.Author.Rules.{rules}
 use Rattle.answers.specs.declared.LeastUsed.{LeastUsed}
 use Rattle.answers.specs.Replies.{least_used_reply}
 use Rattle.drive_lines.specs.Lines.{reply_text}

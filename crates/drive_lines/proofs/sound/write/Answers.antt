@@ -1,5 +1,4 @@
 -- The pieces of a line stand one behind another.
-use borrow.Author.Rules.{rules}
 use Rattle.drive_lines.proofs.Spelling.{alone_spelled, one_spelled, two_spelled, stored_spelled, just_spelled}
 use Rattle.drive_lines.proofs.sound.write.Goals as goal
 

@@ -1,7 +1,6 @@
 -- The operation is found by tests on its number, and its promise is that of the call.
 use mathlib.Core.Path.{refl}
 use native.Mathlib.Omega.{arith}
-use borrow.Author.Rules.{rules}
 use Rattle.drive_record.proofs.Acting.{acted_check, acted_store, acted_field, acted_bucket, acted_cache, acted_batch}
 use Rattle.drive_record.proofs.sound.act.Goals as goal
 

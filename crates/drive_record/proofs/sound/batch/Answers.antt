@@ -3,7 +3,6 @@ use mathlib.Core.Path.{refl, sym}
 use Prim.Native.Nat.{◌+◌}
 use native.Mathlib.Omega.{arith}
 use lib.Seq.{length-take-le, length_front}
-use borrow.Author.Rules.{rules}
 use Rattle.buckets_tables.specs.Tables.{tables}
 use Rattle.cache_tables.specs.Tables.{with_values}
 use Rattle.drive_record.proofs.Acting.{values_size, values_lent, keys_lent, batched_bad, batched_bucket, batched_cache}

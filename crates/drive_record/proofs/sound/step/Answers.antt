@@ -1,5 +1,4 @@
 -- A walk, or what is told of another operation.
-use mathlib.Core.Path.{refl}
 use native.Mathlib.Omega.{arith}
 use Rattle.drive_record.proofs.Stepping.{stepped_walk, stepped_told}
 use Rattle.drive_record.proofs.sound.step.Goals as goal

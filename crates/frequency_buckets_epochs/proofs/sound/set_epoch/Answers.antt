@@ -1,5 +1,4 @@
 -- The state at the epoch holds the ledger at it.
-use borrow.Author.Rules.{rules}
 use Rattle.buckets_tables.proofs.Redated as redated
 use Rattle.frequency_buckets_epochs.proofs.sound.set_epoch.Goals as goal
 

@@ -1,6 +1,5 @@
 -- Checked, then told by the links.
 use mathlib.Core.Path.{refl}
-use borrow.Author.Rules.{rules}
 use Rattle.ledger.specs.BucketCalls.{asks, WalkStep}
 use Rattle.buckets_tables.proofs.Public as public
 use Rattle.frequency_buckets_queries.proofs.walk.step.Goals as goal

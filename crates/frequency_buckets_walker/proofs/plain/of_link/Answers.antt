@@ -1,6 +1,5 @@
 -- Each arm is the definition's.
 use mathlib.Core.Path.{sym, ap}
-use borrow.Author.Rules.{rules}
 use Rattle.frequency_buckets_walker.specs.Stands.{of_link}
 use Rattle.frequency_buckets_walker.proofs.plain.of_link.Goals as goal
 

@@ -1,6 +1,5 @@
 -- Each arm is the definition's.
 use mathlib.Core.Path.{sym, ap}
-use borrow.Author.Rules.{rules}
 use Rattle.frequency_buckets_walker.specs.Stands.{place_of}
 use Rattle.frequency_buckets_walker.proofs.plain.place.Goals as goal
 

@@ -1,5 +1,4 @@
 -- The answer, and the slot that goes with it.
-use borrow.Author.Rules.{rules}
 use Rattle.frequency_buckets_walker.proofs.plain.standing.Goals as goal
 
 pub returns : goal.returns

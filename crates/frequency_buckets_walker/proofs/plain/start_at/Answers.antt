@@ -1,6 +1,4 @@
 -- The check says that the tables hold a ledger, or why not; on sound tables the plain start answers.
-use borrow.Author.Tests.{not-true, not-false}
-use borrow.Author.Rules.{rules}
 use Rattle.buckets_tables.proofs.Public.{checked}
 use Rattle.frequency_buckets_walker.proofs.Answers as laws
 use Rattle.frequency_buckets_walker.proofs.plain.start_at.Goals as goal

@@ -1,6 +1,5 @@
 -- The plain step over the links answers.
 use mathlib.Core.Path.{ap, ◌∙◌}
-use borrow.Author.Rules.{rules}
 use Rattle.frequency_buckets_walker.specs.Stands.{stand_of}
 use Rattle.frequency_buckets_walker.proofs.plain.step_at.Goals as goal
 

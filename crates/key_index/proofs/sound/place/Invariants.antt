@@ -1,12 +1,7 @@
 -- The slots passed have smaller keys; the keys ascend, so that what is ahead shrinks.
-use borrow.Author.Rules.{rules}
-use native.Mathlib.Omega.{arith}
-use Prim.Native.Nat.{ℕ}
-use mathlib.Core.Path.{◌≡◌, refl, sym, subst}
+use mathlib.Core.Path.{◌≡◌}
 use lib.ListN.{length, get_or}
-use borrow.Author.Tests.{ltb-false, ltb-true}
-use Rattle.key_index.specs.Class.{class_of}
-use Rattle.key_index.proofs.Placing.{Placing, ahead, place_start, place_below, place_more, place_less, place_end}
+use Rattle.key_index.proofs.Placing.{Placing, ahead}
 use Rattle.key_index.proofs.sound.place.Given as goal
 
 abbrev pub invariant-loop-s : goal.invariant-loop-s

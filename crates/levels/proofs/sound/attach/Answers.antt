@@ -1,5 +1,4 @@
 -- The slot comes to the front of the line's list, and the other lines stay.
-use borrow.Author.Rules.{rules}
 use Rattle.levels.proofs.Steps as laws
 use Rattle.levels.proofs.sound.attach.Goals as goal
 

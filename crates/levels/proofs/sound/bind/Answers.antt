@@ -1,5 +1,4 @@
 -- No level is below the first frequency, so the slot enters above no record.
-use borrow.Author.Rules.{rules}
 use Rattle.levels.proofs.Calls as laws
 use Rattle.levels.proofs.sound.bind.Goals as goal
 

@@ -1,5 +1,4 @@
 -- The count of the list that `level_ends` finds.
-use borrow.Author.Rules.{rules}
 use Rattle.levels.proofs.Answers.{counts}
 use Rattle.levels.proofs.sound.count.Goals as goal
 

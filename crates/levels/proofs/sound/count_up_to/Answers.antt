@@ -1,7 +1,7 @@
 -- The rows passed are the beginning of all rows, none is above the frequency, and `counted` is what they have; it ends since the frequencies rise.
 use mathlib.Core.Path.{refl}
 use native.Mathlib.Omega.{arith}
-use Rattle.bucket_table.proofs.Places.{rise, rise_less}
+use Rattle.bucket_table.proofs.Places.{rise_less}
 use Rattle.levels.proofs.Counting as laws
 use Rattle.levels.proofs.sound.count_up_to.Goals as goal
 

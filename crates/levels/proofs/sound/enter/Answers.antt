@@ -1,5 +1,4 @@
 -- The record is there or is made, and the slot comes to the front of its list.
-use borrow.Author.Rules.{rules}
 use Rattle.levels.proofs.Enter as laws
 use Rattle.levels.proofs.sound.enter.Goals as goal
 

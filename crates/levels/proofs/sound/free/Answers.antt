@@ -1,5 +1,4 @@
 -- Three stores.
-use borrow.Author.Rules.{rules}
 use Rattle.levels.proofs.Steps as laws
 use Rattle.levels.proofs.sound.free.Goals as goal
 

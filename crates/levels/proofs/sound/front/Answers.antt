@@ -1,5 +1,4 @@
 -- The slot moves inside its line, and the other lines stay.
-use borrow.Author.Rules.{rules}
 use Rattle.levels.proofs.Steps as laws
 use Rattle.levels.proofs.sound.front.Goals as goal
 

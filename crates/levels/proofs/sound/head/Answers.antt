@@ -1,5 +1,4 @@
 -- The head of the list that `level_ends` finds.
-use borrow.Author.Rules.{rules}
 use Rattle.levels.proofs.Answers.{heads}
 use Rattle.levels.proofs.sound.head.Goals as goal
 

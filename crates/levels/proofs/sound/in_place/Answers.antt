@@ -1,5 +1,4 @@
 -- Both tests, in the words of the contract.
-use borrow.Author.Rules.{rules}
 use Rattle.bucket_table.proofs.Places.{spot_at}
 use Rattle.levels.proofs.Answers as laws
 use Rattle.levels.proofs.sound.in_place.Goals as goal

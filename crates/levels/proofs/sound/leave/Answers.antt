@@ -1,6 +1,5 @@
 -- The slot leaves its list and is marked free; then a slot is left, or the record goes.
 use mathlib.Core.Path.{refl}
-use borrow.Author.Rules.{rules}
 use Rattle.links.proofs.Lists.{fits_still}
 use Rattle.levels.proofs.Leave as laws
 use Rattle.levels.proofs.sound.leave.Goals as goal

@@ -1,5 +1,4 @@
 -- The line of one slot gets another frequency.
-use borrow.Author.Rules.{rules}
 use Rattle.levels.proofs.Steps as laws
 use Rattle.levels.proofs.sound.lift.Goals as goal
 

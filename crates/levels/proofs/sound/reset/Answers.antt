@@ -1,11 +1,8 @@
 -- All slots passed are marked free, and the tables keep their sizes.
 use native.Mathlib.Omega.{arith}
-use borrow.Author.Rules.{rules}
-use Prim.Native.Nat.{ℕ, ◌<◌, ◌≤◌, ◌-◌}
-use mathlib.Core.Path.{◌≡◌, refl}
-use lib.ListN.{length, length-set}
+use mathlib.Core.Path.{refl}
+use lib.ListN.{length-set}
 use Rattle.levels.proofs.Steps as laws
-use Rattle.levels.specs.Held.{Free}
 use Rattle.levels.proofs.sound.reset.Goals as goal
 
 pub loop-s-init : goal.loop-s-init

@@ -1,7 +1,5 @@
 -- At the cap the slot moves inside its list; alone it takes its record along; else it leaves and enters.
 use native.Mathlib.Omega.{arith}
-use mathlib.Core.Path.{refl}
-use borrow.Author.Rules.{rules}
 use Rattle.levels.proofs.Calls as laws
 use Rattle.levels.proofs.Leave as leave
 use Rattle.levels.proofs.sound.touch.Goals as goal

@@ -1,5 +1,4 @@
 -- The slot leaves.
-use borrow.Author.Rules.{rules}
 use Rattle.levels.proofs.Calls as laws
 use Rattle.levels.proofs.Leave as leave
 use Rattle.levels.proofs.sound.unbind.Goals as goal

@@ -1,15 +1,9 @@
 -- Each pair of items is one insert more, and the count takes in its answer.
-use mathlib.Core.Path.{sym, ap, ◌∙◌}
-use mathlib.Core.List.{List}
-use Prim.Native.Nat.{ℕ, ◌-◌}
-use native.Mathlib.Omega.{arith}
+use Prim.Native.Nat.{◌-◌}
 use lib.ListN.{length, drop}
-use borrow.Author.Rules.{rules}
 use Rattle.buckets_tables.specs.Tables.{tables}
-use Rattle.answers.specs.Replies.{insertion_reply}
 use Rattle.cache_tables.specs.Tables.{with_values}
 use Rattle.lfu_batches.specs.Batches.{pairs}
-use Rattle.lfu_batches.proofs.Batching as laws
 use Rattle.lfu_batches.proofs.Batching.{Batching, inserts}
 use Rattle.lfu_batches.proofs.sound.insert_batch.Given as goal
 

@@ -1,13 +1,11 @@
 -- Each item is one removal more, and the count takes in its answer.
 use mathlib.Core.Path.{sym, ap, ◌∙◌}
 use mathlib.Core.List.{List}
-use Prim.Native.Nat.{ℕ, ◌-◌}
+use Prim.Native.Nat.{ℕ}
 use native.Mathlib.Omega.{arith}
-use lib.ListN.{length, drop}
+use lib.ListN.{length}
 use borrow.Author.Rules.{rules}
-use Rattle.buckets_tables.specs.Tables.{tables}
 use Rattle.answers.specs.Replies.{value_reply}
-use Rattle.cache_tables.specs.Tables.{with_values}
 use Rattle.lfu_batches.proofs.Batching as laws
 use Rattle.lfu_batches.proofs.Batching.{Batching, removes}
 use Rattle.lfu_batches.proofs.sound.remove_batch.Goals as goal

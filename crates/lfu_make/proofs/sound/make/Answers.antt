@@ -1,5 +1,4 @@
 -- The values are wiped, and the layer below makes the rest.
-use borrow.Author.Rules.{rules}
 use Rattle.lfu_make.proofs.News as news
 use Rattle.lfu_make.proofs.sound.make.Goals as goal
 

@@ -1,11 +1,9 @@
 -- Every turn leaves the tables sound.
 use mathlib.Core.Path.{refl, ◌∙◌}
 use native.Mathlib.Omega.{arith}
-use Rattle.buckets_tables.specs.Tables.{tables}
-use Rattle.cache_tables.specs.Tables.{with_values}
 use Rattle.trace_input.proofs.Sizes.{sizes_fit, buffers_stay}
 use Rattle.trace_input.proofs.Feeding.{sizes_same, sizes_then}
-use Rattle.replay.proofs.Turning.{Running, turn_sound}
+use Rattle.replay.proofs.Turning.{turn_sound}
 use Rattle.replay.proofs.sound.run.Goals as goal
 
 pub make-after-requires : goal.make-after-requires

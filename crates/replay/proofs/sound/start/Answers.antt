@@ -1,6 +1,5 @@
 -- The first places of the arrays have the lengths that the capacity calls for, and the buffers are large.
 use native.Mathlib.Omega.{arith}
-use borrow.Author.Rules.{rules}
 use Rattle.trace_input.proofs.Sizes.{zeros_size, start_sizes, large_buffers}
 use Rattle.replay.proofs.sound.start.Goals as goal
 

@@ -2,7 +2,6 @@
 use lib.Seq.{length-take-le, length_front}
 use mathlib.Core.Path.{sym}
 use native.Mathlib.Omega.{arith}
-use borrow.Author.Rules.{rules}
 use Rattle.trace.specs.Ends.{PART}
 use Rattle.trace_input.proofs.Sizes.{read_fits}
 use Rattle.replay.proofs.sound.turn.Goals as goal

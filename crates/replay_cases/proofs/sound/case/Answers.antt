@@ -1,7 +1,6 @@
 -- What was read fits, and so does what it prints.
 use mathlib.Core.Path.{sym}
 use native.Mathlib.Omega.{arith}
-use borrow.Author.Rules.{rules}
 use lib.Seq.{length-take-le}
 use Rattle.lists.proofs.Tests.{neither}
 use Rattle.trace_input.proofs.Sizes.{read_size}

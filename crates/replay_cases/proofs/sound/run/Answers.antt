@@ -1,6 +1,5 @@
 -- The buffers keep their lengths.
-use lib.ListN.{length}
-use mathlib.Core.Path.{◌≡◌, refl, ◌∙◌}
+use mathlib.Core.Path.{refl, ◌∙◌}
 use native.Mathlib.Omega.{arith}
 use Rattle.trace_input.proofs.Sizes.{buffers_stay}
 use Rattle.replay_cases.proofs.sound.run.Goals as goal

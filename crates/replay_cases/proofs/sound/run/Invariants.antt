@@ -1,8 +1,6 @@
 -- The buffers keep their lengths.
 use lib.ListN.{length}
-use mathlib.Core.Path.{◌≡◌, refl, ◌∙◌}
-use native.Mathlib.Omega.{arith}
-use Rattle.trace_input.proofs.Sizes.{buffers_stay}
+use mathlib.Core.Path.{◌≡◌}
 use Rattle.replay_cases.proofs.sound.run.Given as goal
 
 abbrev pub invariant-loop-turns : goal.invariant-loop-turns

@@ -1,12 +1,9 @@
 -- Each cell that was passed is as a filled table has it; the law of filling does the rest.
-use borrow.Author.Rules.{rules}
-use Prim.Native.Nat.{ℕ, ◌≤◌, ◌<◌, ◌-◌}
 use native.Mathlib.Omega.{arith}
-use mathlib.Core.Path.{◌≡◌, refl, sym}
-use lib.ListN.{length, get_or, length-set}
+use mathlib.Core.Path.{refl, sym}
+use lib.ListN.{length-set}
 use borrow.Author.Count.{below_none}
 use Rattle.lists.proofs.Stores.{stored_more}
-use Rattle.slot_arena.specs.Fill.{filled_cell}
 use Rattle.slot_arena.proofs.Steps.{filled}
 use Rattle.slot_arena.proofs.sound.fill.Goals as goal
 

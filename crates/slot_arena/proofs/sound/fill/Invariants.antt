@@ -1,13 +1,8 @@
 -- Each cell that was passed is as a filled table has it; the law of filling does the rest.
-use borrow.Author.Rules.{rules}
 use Prim.Native.Nat.{ℕ, ◌≤◌, ◌<◌, ◌-◌}
-use native.Mathlib.Omega.{arith}
-use mathlib.Core.Path.{◌≡◌, refl, sym}
-use lib.ListN.{length, get_or, length-set}
-use borrow.Author.Count.{below_none}
-use Rattle.lists.proofs.Stores.{stored_more}
+use mathlib.Core.Path.{◌≡◌}
+use lib.ListN.{length, get_or}
 use Rattle.slot_arena.specs.Fill.{filled_cell}
-use Rattle.slot_arena.proofs.Steps.{filled}
 use Rattle.slot_arena.proofs.sound.fill.Given as goal
 
 abbrev pub invariant-loop-i : goal.invariant-loop-i

@@ -1,5 +1,4 @@
 -- The two cases of a filled cell.
-use borrow.Author.Rules.{rules}
 use mathlib.Core.Path.{sym}
 use Rattle.slot_arena.proofs.Steps.{cell_next, cell_last}
 use Rattle.slot_arena.proofs.sound.filled_cell.Goals as goal

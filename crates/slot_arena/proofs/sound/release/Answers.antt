@@ -1,5 +1,4 @@
 -- The law of releasing; the two ways out differ in whether a slot was free.
-use borrow.Author.Rules.{rules}
 use Rattle.slot_arena.proofs.Steps.{released_alone, released_behind}
 use Rattle.slot_arena.proofs.sound.release.Goals as goal
 

@@ -1,5 +1,4 @@
 -- The law of taking; the two ways out differ in the last slot of the order that is left.
-use borrow.Author.Rules.{rules}
 use mathlib.Core.Path.{refl, sym}
 use Rattle.slot_arena.proofs.Steps.{taken, take_alone, take_last}
 use Rattle.slot_arena.proofs.sound.take.Goals as goal

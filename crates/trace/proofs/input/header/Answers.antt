@@ -1,5 +1,4 @@
 -- By how many bytes there are, and by the capacity in the first two.
-use borrow.Author.Rules.{rules}
 use Rattle.trace.proofs.Beginning.{header_cut, header_large, header_begins}
 use Rattle.trace.proofs.input.header.Goals as goal
 

@@ -1,6 +1,5 @@
 -- The digits that the kit finds are copied.
 use native.Mathlib.Omega.{arith}
-use borrow.Author.Rules.{rules}
 use Rattle.trace.proofs.Writing.{digits_few, number_spelled}
 use Rattle.trace.proofs.sound.number.Goals as goal
 

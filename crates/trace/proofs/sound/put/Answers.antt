@@ -1,8 +1,6 @@
 -- Byte by byte: what was passed is written.
-use Prim.Native.Nat.{◌-◌}
-use lib.ListN.{length}
 use borrow.Author.Rules.{rules}
-use Rattle.trace.proofs.Writing.{Putting, putting_start, putting_more, putting_end}
+use Rattle.trace.proofs.Writing.{putting_start, putting_more, putting_end}
 use Rattle.trace.proofs.sound.put.Goals as goal
 
 pub loop-j-init : goal.loop-j-init

@@ -1,8 +1,7 @@
 -- Byte by byte: what was passed is written.
 use Prim.Native.Nat.{◌-◌}
 use lib.ListN.{length}
-use borrow.Author.Rules.{rules}
-use Rattle.trace.proofs.Writing.{Putting, putting_start, putting_more, putting_end}
+use Rattle.trace.proofs.Writing.{Putting}
 use Rattle.trace.proofs.sound.put.Given as goal
 
 abbrev pub invariant-loop-j : goal.invariant-loop-j

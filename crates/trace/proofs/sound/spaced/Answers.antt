@@ -1,6 +1,5 @@
 -- A blank, and the number behind it.
 use native.Mathlib.Omega.{arith}
-use borrow.Author.Rules.{rules}
 use Rattle.trace.specs.Lines.{DIGITS}
 use Rattle.trace.proofs.Writing.{spells_then, spelled}
 use Rattle.trace.proofs.sound.spaced.Goals as goal

@@ -1,5 +1,4 @@
 -- Each word is its own byte string.
-use borrow.Author.Rules.{rules}
 use Rattle.trace.specs.declared.Word.TheVariants as word
 use Rattle.trace.proofs.Writing.{word_spelled}
 use Rattle.trace.proofs.sound.spell.Goals as goal

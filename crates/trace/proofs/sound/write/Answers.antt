@@ -1,5 +1,4 @@
 -- The pieces of a line stand one behind another.
-use borrow.Author.Rules.{rules}
 use Rattle.trace.proofs.Writing.{plain_spelled, one_spelled, two_spelled}
 use Rattle.trace.proofs.sound.write.Goals as goal
 

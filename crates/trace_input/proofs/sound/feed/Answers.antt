@@ -1,10 +1,7 @@
 -- Record by record.
 use native.Mathlib.Omega.{arith}
 use mathlib.Core.Path.{refl}
-use Prim.Native.Nat.{◌-◌}
-use Rattle.buckets_tables.specs.Tables.{tables}
-use Rattle.cache_tables.specs.Tables.{with_values}
-use Rattle.trace_input.proofs.Feeding.{Feeding, feeding_start, feeding_sound, feeding_room, feeding_more, feeding_end}
+use Rattle.trace_input.proofs.Feeding.{feeding_start, feeding_sound, feeding_room, feeding_more, feeding_end}
 use Rattle.trace_input.proofs.sound.feed.Goals as goal
 
 pub loop-next-init : goal.loop-next-init

@@ -1,7 +1,7 @@
 -- From the last byte to the first.
 use native.Mathlib.Omega.{arith}
 use Prim.Native.Nat.{◌+◌, ◌-◌}
-use Rattle.trace_input.proofs.Numbers.{Reading, reading_start, reading_fits, reading_more, reading_end}
+use Rattle.trace_input.proofs.Numbers.{reading_start, reading_fits, reading_more, reading_end}
 use Rattle.trace_input.proofs.sound.number.Goals as goal
 
 pub loop-j-init : goal.loop-j-init

@@ -1,7 +1,5 @@
 -- From the last byte to the first.
-use native.Mathlib.Omega.{arith}
-use Prim.Native.Nat.{◌+◌, ◌-◌}
-use Rattle.trace_input.proofs.Numbers.{Reading, reading_start, reading_fits, reading_more, reading_end}
+use Rattle.trace_input.proofs.Numbers.{Reading}
 use Rattle.trace_input.proofs.sound.number.Given as goal
 
 abbrev pub invariant-loop-j : goal.invariant-loop-j

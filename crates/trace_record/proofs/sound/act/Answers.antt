@@ -1,6 +1,4 @@
 -- The operation byte names the call of its arm; where it names none, the cache stays.
-use mathlib.Core.Path.{refl}
-use borrow.Author.Rules.{rules}
 use Rattle.cache_tables.proofs.Asking as asking
 use Rattle.trace_record.proofs.Telling.{acted, acted_none, bad_tells}
 use Rattle.trace_record.proofs.sound.act.Goals as goal

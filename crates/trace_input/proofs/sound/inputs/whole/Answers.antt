@@ -1,7 +1,6 @@
 -- By what the first bytes of the input come to.
 use mathlib.Core.Path.{sym, ◌∙◌}
 use native.Mathlib.Omega.{arith}
-use borrow.Author.Rules.{rules}
 use Rattle.trace.proofs.Beginning.{begins_fits}
 use Rattle.trace_input.proofs.Wholes.{records_room, stops_whole, records_whole}
 use Rattle.trace_input.proofs.sound.inputs.whole.Goals as goal

@@ -1,6 +1,5 @@
 -- By the answer's case.
 use mathlib.Core.Path.{sym, ap}
-use borrow.Author.Rules.{rules}
 use Rattle.trace_record.specs.Answers.{level_line}
 use Rattle.trace_record.proofs.sound.cases.of_level.Goals as goal
 

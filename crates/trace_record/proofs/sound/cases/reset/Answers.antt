@@ -1,5 +1,4 @@
 -- The call's promise, and the line of its answer.
-use borrow.Author.Rules.{rules}
 use Rattle.trace_record.proofs.Telling.{reset_tells}
 use Rattle.trace_record.proofs.sound.cases.reset.Goals as goal
 
