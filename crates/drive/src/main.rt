@@ -8,12 +8,16 @@ ghost use Rattle.drive.specs.Ends.{header_of, last_told};
 
 use buckets_tables::State;
 use drive_lines::Told;
+use std::env::{Env, FillError};
 use std::fs::File;
 use std::os::fd::AsRawFd;
 use trace::Word;
 use trace::input::two_bytes;
 
 mod sound;
+
+// No descriptor of a file.
+const CLOSED: i32 = -1;
 
 // How many bytes are read at a time: whole records.
 pub const PART: usize = 65518;
@@ -86,30 +90,44 @@ fn drive(source: i32) {
     }
 }
 
-// Carries out the records of the input that an argument names: `-` is standard input.
-fn named(rt: &HostRuntime, name: &str) {
-    if name == "-" {
-        drive(0);
+// The file of a name, if there is one that can be opened.
+fn opened(rt: &HostRuntime, name: &[u8]) -> Option<File> {
+    let Ok(path) = std::str::from_utf8(name) else {
+        return None;
+    };
+    File::open(rt, path).ok()
+}
+
+// Carries out the records of the input that an argument names, `-` being the descriptor `input`. Answers the descriptor for a later `-`, which finds nothing more.
+fn named(rt: &HostRuntime, name: &[u8], input: i32) -> i32 {
+    let mut later = input;
+    if name == b"-".as_slice() {
+        drive(input);
+        later = CLOSED;
+    } else if let Some(file) = opened(rt, name) {
+        drive(file.as_raw_fd());
     } else {
-        match File::open(rt, name) {
-            Ok(file) => drive(file.as_raw_fd()),
-            Err(_) => {
-                io::write_all(1, b"NO FILE\n");
-            }
-        }
+        io::write_all(1, b"NO FILE\n");
     }
     io::write_all(1, b"--\n");
+    later
 }
 
 // Argument 0 is the program's own name.
-fn main(rt: HostRuntime) -> std::io::Result<()> {
+fn main(rt: HostRuntime) {
+    let mut name = io::buffer();
+    let mut input = 0;
     let mut alone = true;
-    for name in std::env::args(&rt)?.skip(1) {
-        named(&rt, name.as_str());
+    for number in 1..usize::MAX {
+        let n = match rt.arg(number, &mut name) {
+            Ok(n) => n,
+            Err(FillError::TooLong) => 0,
+            Err(FillError::NotPresent) => break,
+        };
+        input = named(&rt, &name[..n], input);
         alone = false;
     }
     if alone {
         drive(0);
     }
-    Ok(())
 }
