@@ -1,5 +1,5 @@
 -- The ledger that sound tables hold, as a function of them: the links are followed, for at most as many steps as there are slots.
--- On tables that hold a ledger it is that one (`ledger-of` of proofs/Read.antt); of other tables it says nothing.
+-- On tables that hold a ledger it is that one (`ledger_of_lem` of proofs/Read.antt); of other tables it says nothing.
 use Rattle.std.specs.Prelude.{ℕ, zero, suc, cond, List, [], ◌∷◌, map, nat_lt}
 use Rattle.ledger.specs.Ledger.{Ledger}
 use Rattle.links.specs.Chain.{cells}

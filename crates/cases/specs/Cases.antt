@@ -1,4 +1,4 @@
--- The twelve cases of document 01, row by row, and what running one gives. That all twelve pass is `twelve-cases` of proofs/Cases.antt.
+-- The twelve cases of document 01, row by row, and what running one gives. That all twelve pass is `twelve_cases` of proofs/Cases.antt.
 use Rattle.std.specs.Prelude.{List, [], ◌∷◌, ◌++◌, map, ℕ, zero, suc, ◌/◌, ◌%◌}
 use Rattle.std.proofs.Math.Option.{Option, none, some}
 use Prim.Native.Char.{code}

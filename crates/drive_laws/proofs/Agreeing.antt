@@ -1,7 +1,7 @@
 -- A record of `drive` leaves no choice: two results that its definition allows print the same line, and have the same tables and state or hold
 -- the same thing. What carries it: one promise allows one reply, a check one answer, and tables are read in one way; a reply has one line, an
 -- insert's too, for it is the reply of one answer; damage is a function, for tables and state are those of their lists of parts. Records in a
--- row agree by `prints-agree` wherever the tables and states after each are equal.
+-- row agree by `prints_agree` wherever the tables and states after each are equal.
 use mathlib.Core.Path.{◌≡◌, sym, ap, ◌∙◌}
 use mathlib.Core.Logic.{◌⊎◌, inl, inr}
 use mathlib.Core.List.{List, []}

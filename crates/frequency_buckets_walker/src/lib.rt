@@ -1,7 +1,7 @@
 // A walker: it holds the links of the entries and where it stands in the list of a frequency. Its start checks the tables, its step only
 // the slot. The fields of a walker and of a stand are this crate's own: whoever holds one got it from a start, which checked the tables that
-// the walker holds. The borrow checker covers no function over a struct that holds a slice, so these are thin and proved by hand; the work
-// is done in `plain`, on plain tables. Other callers take `first`, `nth` and `sound::onward`, whose parameters are plain too.
+// the walker holds. These functions are thin: the work is done in `plain`, on plain tables. Other callers take `first`, `nth` and
+// `sound::onward`, whose parameters are plain too.
 #![tactic(auto)]
 
 ghost use Rattle.std.specs.Prelude.{◌≡◌};
@@ -85,7 +85,7 @@ pub fn stands<'a>(w: Walker<'a>) -> Stand
     w.at
 }
 
-// Where a walker of a frequency starts. Its parameters are plain tables, so a caller needs no proof by hand.
+// Where a walker of a frequency starts, on plain tables.
 pub fn first<'a>(
     keys: &'a [u64],
     freqs: &'a [u64],

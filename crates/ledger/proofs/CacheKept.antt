@@ -1,4 +1,4 @@
--- What every call of the cache keeps, as Kept.antt for the buckets: `does-keep` goes once through all single calls, and
+-- What every call of the cache keeps, as Kept.antt for the buckets: `does_keep` goes once through all single calls, and
 -- well-formedness and the capacity are two relations that its changes keep.
 use mathlib.Core.Path.{◌≡◌, refl, sym, ap, ◌∙◌}
 use mathlib.Core.Logic.{◌≢◌}

@@ -1,4 +1,4 @@
--- What every call of the buckets keeps. `calls-keep` goes once through all calls: a relation between the ledger before and the one
+-- What every call of the buckets keeps. `calls_keep` goes once through all calls: a relation between the ledger before and the one
 -- after that holds of the changes which calls are made of holds of every call. Well-formedness and the capacity are two of them.
 use mathlib.Core.Path.{◌≡◌, refl, ◌∙◌}
 use mathlib.Core.Option.{Option, none, some}

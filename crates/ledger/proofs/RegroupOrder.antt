@@ -1,5 +1,5 @@
 -- The order within a new list: keys from a higher old frequency stand nearer the head, and keys of one old frequency keep their order. Carried by
--- one law of `join` (`keys-join`): a list that comes to a frequency stands behind what is there already, and the levels come from the highest down.
+-- one law of `join` (`keys_join`): a list that comes to a frequency stands behind what is there already, and the levels come from the highest down.
 use mathlib.Core.Path.{◌≡◌, refl, sym, ap, ◌∙◌}
 use mathlib.Core.Logic.{inl, inr, ◌≢◌}
 use mathlib.Core.Bool.{Bool, true, false, cond}

@@ -1,5 +1,5 @@
 -- The free order is one queue: what is handed out leaves it in front, what is taken back joins it behind. That is one equation of lists for each
--- call (`one-queue`), and the equations of a sequence are one again; from it a freed slot rests longest. What is handed out and taken back are
+-- call (`one_queue`), and the equations of a sequence are one again; from it a freed slot rests longest. What is handed out and taken back are
 -- exactly the slots that the call binds and frees: by counting, from the same equation.
 use mathlib.Core.Path.{◌≡◌, refl, sym, ap, ◌∙◌}
 use mathlib.Core.Logic.{◌⊎◌, inl, inr, ◌≢◌, ◌↔◌}

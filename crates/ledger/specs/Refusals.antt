@@ -1,5 +1,5 @@
 -- The "exactly when" column of document 01's table, for the calls of the buckets and of the cache. That each call is refused
--- exactly then is `refused-exactly` of proofs/Refusals.antt and `cache-refused-exactly` of proofs/CacheRefusals.antt.
+-- exactly then is `refused_exactly` of proofs/Refusals.antt and `cache_refused_exactly` of proofs/CacheRefusals.antt.
 use Rattle.std.specs.Prelude.{◌≡◌, ℕ, ◌≤◌}
 use Rattle.numbers.specs.declared.Answer.{Answer}
 use Rattle.numbers.specs.declared.Answer.TheVariants.{Absent, Present, Full, Empty}

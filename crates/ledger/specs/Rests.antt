@@ -1,5 +1,5 @@
 -- The slot that rested longest (document 02, K4): which slots the calls of the buckets hand out and take back, in order, and what it means
--- that a freed slot rests longest. That the slots handed out and taken back are the right ones: `handed-exactly` and `given-exactly`,
+-- that a freed slot rests longest. That the slots handed out and taken back are the right ones: `handed_exactly` and `given_exactly`,
 -- proofs/Rests.antt.
 use Rattle.std.specs.Prelude.{◌≡◌, ◌≢◌, List, [], ◌∷◌, ◌++◌, ℕ, ◌≤◌}
 use Rattle.lists.specs.Lists.{All, Without}

@@ -1,4 +1,4 @@
--- The first free slot is taken, entered and put into its level; `bound-so` says that the tables hold the key then.
+-- The first free slot is taken, entered and put into its level; `bound_so` says that the tables hold the key then.
 use Rattle.std.proofs.Common.{rules}
 use Rattle.buckets_tables.proofs.Asked as asked
 use Rattle.buckets_tables.proofs.sound.bind.Goals as goal

@@ -1,4 +1,4 @@
--- The slot is touched in the lists and gets the epoch; `hit-so` says what the tables hold then.
+-- The slot is touched in the lists and gets the epoch; `hit_so` says what the tables hold then.
 use Rattle.std.proofs.Common.{refl, rules}
 use Rattle.buckets_tables.proofs.Asked as asked
 use Rattle.buckets_tables.proofs.sound.hit.Goals as goal

@@ -1,4 +1,4 @@
--- The slot leaves the index and its level and goes to the free order; `gone-so` says what the tables hold then.
+-- The slot leaves the index and its level and goes to the free order; `gone_so` says what the tables hold then.
 use Rattle.std.proofs.Common.{rules}
 use Rattle.buckets_tables.proofs.Asked as asked
 use Rattle.buckets_tables.proofs.sound.let_go.Goals as goal

@@ -1,4 +1,4 @@
--- The slot leaves its list and enters the first one, and gets the epoch; `restart-so` says what the tables hold then.
+-- The slot leaves its list and enters the first one, and gets the epoch; `restart_so` says what the tables hold then.
 use Rattle.std.proofs.Common.{refl, rules}
 use Rattle.buckets_tables.proofs.Asked as asked
 use Rattle.buckets_tables.proofs.sound.restart.Goals as goal
