@@ -1,16 +1,15 @@
 -- The check. The walk of the records builds rows from the table as it goes, and stumbles only where there can be no rows; the count of the arena's marks
 -- says that no record in use was missed.
 use mathlib.Core.Path.{◌≡◌, refl, sym, ap, ◌∙◌, subst}
-use mathlib.Core.Bool.{true, false}
-use mathlib.Core.Logic.{◌≢◌, ◌↔◌, inl}
+use mathlib.Core.Bool.{false}
+use mathlib.Core.Logic.{◌≢◌}
 use mathlib.Core.List.{List, [], ◌∷◌, ◌++◌, map, append_assoc, append-nil, map-append}
 use Prim.Native.Nat.{ℕ, ◌+◌, ◌<◌, ◌≤◌, ◌-◌}
 use native.Mathlib.Omega.{arith}
 use lib.ListN.{length, length-append}
-use lib.Dec.{eqb, ltb}
-use borrow.Author.Tests.{eq-eqb, eqb-true, ltb-true, lt-ltb}
+use lib.Dec.{eqb}
+use borrow.Author.Tests.{eq-eqb, eqb-true}
 use Rattle.numbers.specs.Marks.{NONE}
-use Rattle.numbers.specs.Frequency.{CEILING}
 use Rattle.lists.specs.Lists.{All}
 use Rattle.lists.proofs.Tests.{neither}
 use Rattle.lists.proofs.Members.{all_any, all_append, all_mid, all_right}
@@ -21,24 +20,12 @@ use Rattle.slot_arena.specs.Arena.{InUse}
 use Rattle.slot_arena.specs.Check.{used_in}
 use Rattle.slot_arena.proofs.Check.{others_counted}
 use Rattle.bucket_table.specs.declared.Buckets.{Buckets}
-use Rattle.bucket_table.specs.Records.{frequency, lower, higher, up, down, InTable, Spot, Row, nums, Written, row_of, RecordsHold, RecordsSound, RowsRise}
+use Rattle.bucket_table.specs.Records.{frequency, lower, higher, up, down, Row, nums, Written, row_of, RecordsHold, RecordsSound, RowsRise}
 use Rattle.bucket_table.specs.Check.{RecordOk, RecordsWalk, RecordsSized}
 use Rattle.bucket_table.proofs.Rows.{clear, rising_around}
 use Rattle.bucket_table.proofs.One.{rows_of}
 
 -- ---- one record
-
-pub used_in_lem : (b sp : List ℕ) (r : ℕ) → RecordsSized b sp → InUse sp r → InTable b r
-used_in_lem b sp r z u = let l = u.0 in let e = z.size in omega arith
-
-pub used_spot : (b sp : List ℕ) (r : ℕ) → RecordsSized b sp → InUse sp r → Spot b r
-used_spot b sp r z u = let l = u.0 in let m = z.limit in inl (omega arith, used_in_lem b sp r z u)
-
-pub record_last : (b sp : List ℕ) (low at r u v : ℕ) → InUse sp r → u ≡ lower b r → u ≡ at → v ≡ frequency b r → v ≤ CEILING → (ltb low v ≡ true) ↔ RecordOk b sp low at r
-record_last b sp low at r u v i eu e ev c = (
-  λ q. record { used = i; back = sym eu ∙ e; above = rw ev at (ltb-true low v q); ceiling = rw ev at c },
-  λ k. lt-ltb low v (rw ev k.above),
-)
 
 -- ---- the walk
 

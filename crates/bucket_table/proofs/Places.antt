@@ -1,12 +1,11 @@
 -- The search for a place: the walk has passed rows that are all below the frequency. It ends, since the frequencies rise to the ceiling at most.
 use mathlib.Core.Path.{◌≡◌, refl, sym, ap, ◌∙◌, subst}
-use mathlib.Core.Logic.{◌≢◌, ◌↔◌, inl, inr}
-use mathlib.Core.Bool.{true, cond}
+use mathlib.Core.Logic.{◌≢◌, inl, inr}
+use mathlib.Core.Bool.{cond}
 use mathlib.Core.List.{List, [], ◌∷◌, ◌++◌, append_assoc, append-nil}
 use Prim.Native.Nat.{ℕ, ◌+◌, ◌<◌, ◌≤◌, ◌-◌}
 use native.Mathlib.Omega.{arith}
 use lib.Dec.{eqb}
-use borrow.Author.Tests.{eq-eqb, eqb-true}
 use Rattle.numbers.specs.Marks.{NONE}
 use Rattle.numbers.specs.Frequency.{CEILING}
 use Rattle.lists.specs.Lists.{All, final}
@@ -16,7 +15,6 @@ use Rattle.links.proofs.Functions.{look_end, look_at}
 use Rattle.links.specs.declared.Ends.{Ends}
 use Rattle.bucket_table.specs.declared.Buckets.{Buckets}
 use Rattle.bucket_table.specs.Records.{frequency, higher, up, InTable, Spot, Row, row, empty, nums, row_of, RecordsHold, RecordsSound}
-use Rattle.bucket_table.specs.declared.Made.{Made}
 use Rattle.bucket_table.specs.Calls.{HasLevel, Opens, MakesRecord, PlacesRecord}
 use Rattle.bucket_table.proofs.One.{row_is}
 use Rattle.bucket_table.proofs.Rows.{nums_append, rising_around, above_none, above_row, row_in, row_some, row_written}
@@ -159,14 +157,11 @@ module _ (b : List ℕ) (s : Buckets) (f at n : ℕ) (p : Passed b s f at n) whe
           let above = (rising_around 0 p.0 v vs h.rising).3 in
           (omega arith, all_map (λ w. v.freq < w.freq) (λ w. f ≤ w.freq) (λ w q. omega arith) vs above)
 
--- ---- `is_level` and `open`
-
-pub level_test : (b : List ℕ) (n f v : ℕ) → n ≢ NONE → v ≡ frequency b n → (eqb v f ≡ true) ↔ HasLevel b n f
-level_test b n f v ne e = (λ q. (ne, sym e ∙ eqb-true v f q), λ h. eq-eqb v f (e ∙ h.1))
+-- ---- `ensure`
 
 module _ (b sp : List ℕ) (s : Buckets) (at g n : ℕ) (en : n ≡ up b s at) where
   -- the record is there
-  pub opens_there : Spot b (up b s at) → HasLevel b n g → Opens b sp s at g b sp (record { number = n; state = s })
+  pub opens_there : Spot b (up b s at) → HasLevel b n g → Opens b sp s at g b sp n s
   opens_there sp₀ l = record {
     number_in = spot_in b n (rw en sp₀) l.0;
     size = refl;
@@ -183,14 +178,14 @@ module _ (b sp : List ℕ) (s : Buckets) (at g n : ℕ) (en : n ≡ up b s at) w
           (v.ends, vs, λ i. row (e i) (f i) v.ends ∷ vs)
 
   -- it is not, and is made
-  pub opens_new : (HasLevel b n g → ⊥) → (b' sp' : List ℕ) (m : Made) → MakesRecord b sp s at g b' sp' m → Opens b sp s at g b' sp' m
-  opens_new l b' sp' m d = record {
+  pub opens_new : (HasLevel b n g → ⊥) → (b' sp' : List ℕ) (q : ℕ) (s' : Buckets) → MakesRecord b sp s at g b' sp' q s' → Opens b sp s at g b' sp' q s'
+  opens_new l b' sp' q s' d = record {
     number_in = d.number_in;
     size = d.size;
     spares_size = d.spares_size;
     owners = d.owners;
     rows = λ us vs ea few one c hu hv h.
-        let above = go us vs ea h hv in (row m.number g empty ∷ vs, inr (above, refl), d.rows us vs ea few one c hu above h);
+        let above = go us vs ea h hv in (row q g empty ∷ vs, inr (above, refl), d.rows us vs ea few one c hu above h);
   }
     where
       go : (us vs : List Row) → at ≡ final NONE (nums us) → RecordsHold b sp s (us ++ vs) → All (λ w. g ≤ w.freq) vs → All (λ w. g < w.freq) vs

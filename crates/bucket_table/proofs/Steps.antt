@@ -14,7 +14,7 @@ use Rattle.links.proofs.Functions.{upd_same, upd_other, look_at, look_end, look_
 use Rattle.links.proofs.Rings.{around, remove, insert}
 use Rattle.slot_arena.specs.Arena.{Uses, Takes, Releases, Filled}
 use Rattle.slot_arena.specs.declared.Order.{Order}
-use Rattle.slot_arena.specs.declared.Taken.{Taken}
+use Rattle.numbers.specs.declared.Slot.{Slot}
 use Rattle.slot_arena.proofs.Uses.{uses_take, uses_release, uses_filled}
 use Rattle.bucket_table.specs.declared.Buckets.{Buckets}
 use Rattle.bucket_table.specs.Records.{WORDS, word, frequency, lower, higher, head, tail, count, up, down, Spot, Row, row, empty, nums, Written, RecordsHold, RowsRise}
@@ -140,13 +140,13 @@ raised_to b r g b' d = record {
 
 -- ---- `make`
 
-module _ (b sp : List ℕ) (s : Buckets) (at₀ g : ℕ) (pre : Making b sp s at₀) (n : ℕ) (en : n ≡ up b s at₀) (sp' : List ℕ) (t : Taken) (tk : Takes sp s.spare sp' t)
-    (b₁ b₂ b' : List ℕ) (bot top : ℕ) (fl : RecordsFilled b t.slot.0 g at₀ n b₁) (l₂ : Linked 2 b₁ s.bottom at₀ t.slot.0 b₂ bot) (l₁ : Linked 1 b₂ s.top n t.slot.0 b' top) where
+module _ (b sp : List ℕ) (s : Buckets) (at₀ g : ℕ) (pre : Making b sp s at₀) (n : ℕ) (en : n ≡ up b s at₀) (sp' : List ℕ) (t : Slot) (o : Order) (tk : Takes sp s.spare sp' t o)
+    (b₁ b₂ b' : List ℕ) (bot top : ℕ) (fl : RecordsFilled b t.0 g at₀ n b₁) (l₂ : Linked 2 b₁ s.bottom at₀ t.0 b₂ bot) (l₁ : Linked 1 b₂ s.top n t.0 b' top) where
   abbrev q : ℕ
-  q = t.slot.0
+  q = t.0
 
   abbrev s' : Buckets
-  s' = record { bottom = bot; top = top; spare = t.order }
+  s' = record { bottom = bot; top = top; spare = o }
 
   q_none : q ≢ NONE
   q_none = let e = tk.slot in let l = pre.room in let m = pre.limit in omega arith
@@ -198,8 +198,8 @@ module _ (b sp : List ℕ) (s : Buckets) (at₀ g : ℕ) (pre : Making b sp s at
   }
 
   module _ (us vs : List Row) (ea : at₀ ≡ final NONE (nums us)) (few : length (nums (us ++ vs)) < length sp) (h : RecordsHold b sp s (us ++ vs)) where
-    used : Uses sp' t.order (nums us ++ q ∷ nums vs) × Without q (nums us ++ nums vs)
-    used = uses_take sp s.spare sp' t (nums us) (nums vs) tk (rw (nums_append us vs) at h.uses) (rw (nums_append us vs) at few)
+    used : Uses sp' o (nums us ++ q ∷ nums vs) × Without q (nums us ++ nums vs)
+    used = uses_take sp s.spare sp' t o (nums us) (nums vs) tk (rw (nums_append us vs) at h.uses) (rw (nums_append us vs) at few)
 
     n_spot : Spot b n
     n_spot = rw (en, ea) (above_spot b sp s us vs h)
@@ -223,7 +223,7 @@ module _ (b sp : List ℕ) (s : Buckets) (at₀ g : ℕ) (pre : Making b sp s at
       rising = ri;
     }
 
-  pub makes : MakesRecord b sp s at₀ g b' sp' (record { number = q; state = s' })
+  pub makes : MakesRecord b sp s at₀ g b' sp' q s'
   makes = record {
     number_in = let e = tk.slot in let l = pre.room in let z = pre.size in let w = sizes in omega arith;
     size = sizes;

@@ -37,14 +37,6 @@ link_out w b e i v h = record {
   rest = λ u _. refl;
 }
 
--- past the table there is no record
-pub link_past : (w : ℕ) (b : List ℕ) (e i v : ℕ) → w < WORDS → i < NONE → length b ≤ i * WORDS + w → Linked w b e i v b v
-link_past w b e i v wide h q = record {
-  size = refl;
-  made = ⊎_elim (λ f. let l = f.1 in absurd (omega arith)) (λ f. absurd (omega arith));
-  rest = λ u _. refl;
-}
-
 -- ---- `fill`
 
 module _ (b : List ℕ) (r f l h : ℕ) (b₁ b₂ b₃ b' : List ℕ)

@@ -6,7 +6,6 @@ use Rattle.lists.specs.Lists.{All, final}
 use Rattle.links.specs.Ring.{upd, look}
 use Rattle.links.specs.declared.Ends.{Ends}
 use Rattle.bucket_table.specs.declared.Buckets.{Buckets}
-use Rattle.bucket_table.specs.declared.Made.{Made}
 use Rattle.bucket_table.specs.Records.{WORDS, word, frequency, lower, higher, head, tail, count, owner, up, InTable, Spot, Row, row, empty, nums, RecordsHold}
 
 -- ---- the words
@@ -67,14 +66,14 @@ pub record Making (b sp : List ℕ) (s : Buckets) (at : ℕ) : Type 0 where
   pub room : s.spare.first < length sp
   pub place : Spot b at
 
-pub record MakesRecord (b sp : List ℕ) (s : Buckets) (at g : ℕ) (b' sp' : List ℕ) (m : Made) : Type 0 where
-  pub number_in : InTable b' m.number
+pub record MakesRecord (b sp : List ℕ) (s : Buckets) (at g : ℕ) (b' sp' : List ℕ) (q : ℕ) (s' : Buckets) : Type 0 where
+  pub number_in : InTable b' q
   pub size : length b' ≡ length b
   pub spares_size : length sp' ≡ length sp
   pub owners : owner b' ≡ owner b
   pub rows : (us vs : List Row) → at ≡ final NONE (nums us) → length (nums (us ++ vs)) < length sp
       → 1 ≤ g → g ≤ CEILING → All (λ w. w.freq < g) us → All (λ w. g < w.freq) vs
-      → RecordsHold b sp s (us ++ vs) → RecordsHold b' sp' m.state (us ++ row m.number g empty ∷ vs)
+      → RecordsHold b sp s (us ++ vs) → RecordsHold b' sp' s' (us ++ row q g empty ∷ vs)
 
 -- the same, and what is above `at` is a record or NONE
 pub record Opening (b sp : List ℕ) (s : Buckets) (at : ℕ) : Type 0 where
@@ -85,14 +84,14 @@ pub record Opening (b sp : List ℕ) (s : Buckets) (at : ℕ) : Type 0 where
 abbrev pub Opened : ℕ → ℕ → List Row → List Row → Type 0
 Opened q g vs ws = (((e : Ends) × (rest : List Row) × (vs ≡ row q g e ∷ rest)) × (ws ≡ vs)) ⊎ (All (λ w. g < w.freq) vs × (ws ≡ row q g empty ∷ vs))
 
-pub record Opens (b sp : List ℕ) (s : Buckets) (at g : ℕ) (b' sp' : List ℕ) (m : Made) : Type 0 where
-  pub number_in : InTable b' m.number
+pub record Opens (b sp : List ℕ) (s : Buckets) (at g : ℕ) (b' sp' : List ℕ) (q : ℕ) (s' : Buckets) : Type 0 where
+  pub number_in : InTable b' q
   pub size : length b' ≡ length b
   pub spares_size : length sp' ≡ length sp
   pub owners : owner b' ≡ owner b
   pub rows : (us vs : List Row) → at ≡ final NONE (nums us) → length (nums (us ++ vs)) < length sp
       → 1 ≤ g → g ≤ CEILING → All (λ w. w.freq < g) us → All (λ w. g ≤ w.freq) vs
-      → RecordsHold b sp s (us ++ vs) → (ws : List Row) × Opened m.number g vs ws × RecordsHold b' sp' m.state (us ++ ws)
+      → RecordsHold b sp s (us ++ vs) → (ws : List Row) × Opened q g vs ws × RecordsHold b' sp' s' (us ++ ws)
 
 pub record Dropping (b sp : List ℕ) (r : ℕ) : Type 0 where
   pub size : length b ≡ length sp * WORDS

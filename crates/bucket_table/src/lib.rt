@@ -23,26 +23,14 @@ pub struct Buckets {
     pub spare: slot_arena::Order,
 }
 
-// A new record, and the state with it.
-#[derive(Clone, Copy)]
-pub struct Made {
-    pub number: u64,
-    pub state: Buckets,
-}
-
 // Whether a record is in use, leads back to `at`, and has a frequency above `low`.
 fn record_ok(buckets: &[u64], spares: &[u64], low: u64, at: u64, number: u64) -> bool
     requires { RecordsSized buckets.now spares.now }
     ensures { (result ≡ true) ↔ RecordOk buckets.now spares.now low at number }
 {
-    if !slot_arena::in_use(spares, Slot(number)) {
-        return false;
-    }
-    if sound::below(buckets, number) != at {
-        return false;
-    }
-    let f = sound::frequency(buckets, number);
-    low < f.0
+    slot_arena::in_use(spares, Slot(number))
+        && sound::below(buckets, number) == at
+        && low < sound::frequency(buckets, number).0
 }
 
 // Walks the records, of which there are to be as many as the arena has slots in use.
@@ -54,35 +42,24 @@ fn walk(buckets: &[u64], spares: &[u64], state: Buckets, used: u64) -> bool
     let mut at = NONE;
     let mut low = 0;
     let mut left = used;
+    // A `while`, since it follows links: no range and no iterator has the places.
     while number != NONE {
-        if left == 0 {
+        if left == 0 || !record_ok(buckets, spares, low, at, number) {
             return false;
         }
-        if !record_ok(buckets, spares, low, at, number) {
-            return false;
-        }
-        let f = sound::frequency(buckets, number);
-        low = f.0;
+        low = sound::frequency(buckets, number).0;
         at = number;
         number = sound::above(buckets, state, at);
         left -= 1;
     }
-    if left != 0 {
-        return false;
-    }
-    state.top == at
+    left == 0 && state.top == at
 }
 
 // Whether the tables hold records. Linear in the tables' length.
 pub fn is_sound(buckets: &[u64], spares: &[u64], state: Buckets) -> bool
     ensures { (result ≡ true) ↔ RecordsSound buckets.now spares.now state }
 {
-    if !slot_arena::is_sound(spares, state.spare) {
-        return false;
-    }
-    if buckets.len() as u64 != spares.len() as u64 * WORDS {
-        return false;
-    }
-    let used = slot_arena::count_used(spares);
-    walk(buckets, spares, state, used)
+    slot_arena::is_sound(spares, state.spare)
+        && buckets.len() as u64 == spares.len() as u64 * WORDS
+        && walk(buckets, spares, state, slot_arena::count_used(spares))
 }

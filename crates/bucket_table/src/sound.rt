@@ -4,7 +4,7 @@ ghost use Rattle.numbers.specs.Marks.{LIMIT};
 ghost use Rattle.bucket_table.specs.Records.{WORDS, word, frequency, owner, lower, up, InTable, Spot, EndsAt, RecordsSound};
 ghost use Rattle.bucket_table.specs.Calls.{Stored, Linked, SetEnds, SetOwner, HasLevel, Raises, Making, Opening, Opens, Dropping, Drops, MakesRecord, RecordsReset, PlacesRecord, RecordsFilled};
 
-use crate::{Buckets, Made, WORDS};
+use crate::{Buckets, WORDS};
 use numbers::{Frequency, NONE, Slot};
 
 // The places of the words in a record.
@@ -106,10 +106,7 @@ pub fn is_level(buckets: &[u64], number: u64, frequency: Frequency) -> bool
     requires { Spot buckets.now number }
     ensures { (result ≡ true) ↔ HasLevel buckets.now number frequency.0 }
 {
-    if number == NONE {
-        return false;
-    }
-    word(buckets, number, FREQUENCY) == frequency.0
+    number != NONE && word(buckets, number, FREQUENCY) == frequency.0
 }
 
 // Gives a record's list other ends.
@@ -154,75 +151,53 @@ fn fill(buckets: &mut [u64], number: u64, frequency: Frequency, lower: u64, high
     set_ends(buckets, number, none);
 }
 
-// Makes a record for a frequency above the record `at`, the lowest one where that is NONE.
+// Makes a record for a frequency above the record `at`, the lowest one where that is NONE. The answer is its number.
 pub fn make(
     buckets: &mut [u64],
     spares: &mut [u64],
-    state: Buckets,
+    state: &mut Buckets,
     at: u64,
     frequency: Frequency,
-) -> Made
-    requires { Making buckets.old spares.old state at }
-    ensures { MakesRecord
-        buckets.old spares.old state at frequency.0
-        buckets.new spares.new result }
+) -> u64
+    requires { Making buckets.old spares.old state.old at }
+    ensures { MakesRecord buckets.old spares.old state.old at frequency.0 buckets.new spares.new result state.new }
 {
-    let higher = above(&buckets[..], state, at);
-    let taken = slot_arena::sound::take(spares, state.spare);
-    let number = taken.slot.0;
-    let spare = taken.order;
+    let higher = above(&buckets[..], *state, at);
+    let number = slot_arena::sound::take(spares, &mut state.spare).0;
     fill(buckets, number, frequency, at, higher);
-    let bottom = link(buckets, HIGHER, state.bottom, at, number);
-    let top = link(buckets, LOWER, state.top, higher, number);
-    let after = Buckets {
-        bottom: bottom,
-        top: top,
-        spare: spare,
-    };
-    Made {
-        number: number,
-        state: after,
-    }
+    state.bottom = link(buckets, HIGHER, state.bottom, at, number);
+    state.top = link(buckets, LOWER, state.top, higher, number);
+    number
 }
 
 // The record of a frequency above the record `at`, which is made if it is not there.
 pub fn ensure(
     buckets: &mut [u64],
     spares: &mut [u64],
-    state: Buckets,
+    state: &mut Buckets,
     at: u64,
     frequency: Frequency,
-) -> Made
-    requires { Opening buckets.old spares.old state at }
-    ensures { Opens
-        buckets.old spares.old state at frequency.0
-        buckets.new spares.new result }
+) -> u64
+    requires { Opening buckets.old spares.old state.old at }
+    ensures { Opens buckets.old spares.old state.old at frequency.0 buckets.new spares.new result state.new }
 {
-    let number = above(&buckets[..], state, at);
+    let number = above(&buckets[..], *state, at);
     if is_level(&buckets[..], number, frequency) {
-        return Made {
-            number: number,
-            state: state,
-        };
+        return number;
     }
     make(buckets, spares, state, at, frequency)
 }
 
 // Takes a record out: its neighbours are linked, and it is spare.
-pub fn remove(buckets: &mut [u64], spares: &mut [u64], state: Buckets, number: u64) -> Buckets
+pub fn remove(buckets: &mut [u64], spares: &mut [u64], state: &mut Buckets, number: u64)
     requires { Dropping buckets.old spares.old number }
-    ensures { Drops buckets.old spares.old state number buckets.new spares.new result }
+    ensures { Drops buckets.old spares.old state.old number buckets.new spares.new state.new }
 {
     let lower = word(&buckets[..], number, LOWER);
     let higher = word(&buckets[..], number, HIGHER);
-    let bottom = link(buckets, HIGHER, state.bottom, lower, higher);
-    let top = link(buckets, LOWER, state.top, higher, lower);
-    let spare = slot_arena::sound::release(spares, state.spare, Slot(number));
-    Buckets {
-        bottom: bottom,
-        top: top,
-        spare: spare,
-    }
+    state.bottom = link(buckets, HIGHER, state.bottom, lower, higher);
+    state.top = link(buckets, LOWER, state.top, higher, lower);
+    slot_arena::sound::release(spares, &mut state.spare, Slot(number));
 }
 
 // The highest record below a frequency, NONE where there is none: a walk from the lowest record up.
@@ -232,6 +207,7 @@ pub fn place(buckets: &[u64], state: Buckets, frequency: Frequency) -> u64
 {
     let mut at = NONE;
     let mut number = state.bottom;
+    // A `while`, since it follows links: no range and no iterator has the places.
     while number != NONE {
         if word(buckets, number, FREQUENCY) >= frequency.0 {
             return at;
@@ -251,6 +227,6 @@ pub fn reset(spares: &mut [u64]) -> Buckets
     Buckets {
         bottom: NONE,
         top: NONE,
-        spare: spare,
+        spare,
     }
 }

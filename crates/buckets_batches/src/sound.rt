@@ -1,156 +1,90 @@
 // The batches on tables that are known to be sound: the single call for each item in order, past refusals too, and the count of those
-// that were done.
+// that were done. The loops differ in the call that they make, and in what is lent to it: a closure over the tables would be as long as a loop.
 ghost use Rattle.ledger.specs.Buckets as ledger;
-ghost use Rattle.promise.specs.Promise.{Does, Sound};
-ghost use Rattle.buckets_tables.specs.Slices.{lent};
+ghost use Rattle.promise.specs.Promise.{Does, DoesBeside, Sound, SoundBeside};
+ghost use Rattle.levels.specs.Slices.{lent as lent_levels, SameLevels};
+ghost use Rattle.buckets_tables.specs.Slices.{lent, Same};
 ghost use Rattle.buckets_tables.specs.Lent as kind;
 ghost use Rattle.answers.specs.Replies.{number_reply};
-ghost use Rattle.buckets_calls.specs.Calls.{with, Touchable};
-ghost use Rattle.buckets_batches.specs.Batches.{TouchesAll};
+ghost use Rattle.buckets_calls.specs.Calls.{with};
 
-use crate::{Batched, done_once, leveled_once};
-use buckets_tables::State;
+use crate::done_once;
+use buckets_calls::sound::{insert, remove, touch};
+use buckets_tables::{Guests, State};
+use levels::Levels;
 use numbers::{Frequency, Key};
 
 // Binds each key that is absent, at frequency 1, while there are free slots.
 pub fn insert_batch(
-    keys: &mut [u64],
-    freqs: &mut [u64],
+    guests: &mut Guests<&mut [u64]>,
     epochs: &mut [u64],
-    prevs: &mut [u64],
-    nexts: &mut [u64],
-    arena: &mut [u64],
-    index: &mut [u64],
-    buckets: &mut [u64],
-    spares: &mut [u64],
-    mut state: State,
+    levels: &mut Levels<&mut [u64]>,
+    state: &mut State,
     items: &[u64],
-) -> Batched
-    requires { Sound kind.buckets (lent keys.old freqs.old epochs.old prevs.old nexts.old arena.old index.old buckets.old spares.old) state }
-    ensures { Does kind.buckets (ledger.insert_batch items.now)
-        (lent keys.old freqs.old epochs.old prevs.old nexts.old arena.old index.old buckets.old spares.old) state (number_reply result.done)
-        (lent keys.new freqs.new epochs.new prevs.new nexts.new arena.new index.new buckets.new spares.new) result.state }
+) -> u64
+    requires { Sound kind.buckets (lent guests.old epochs.old levels.old) state.old }
+    ensures same { Same guests.old guests.new levels.old levels.new }
+    ensures does { Does kind.buckets (ledger.insert_batch items.now)
+        (lent guests.old epochs.old levels.old) state.old (number_reply (Ok result))
+        (lent guests.new epochs.new levels.new) state.new }
 {
     let mut done: u64 = 0;
-    let mut i = 0;
-    while i < items.len() {
-        let item = items[i];
-        let stored = buckets_calls::sound::insert(
-            keys,
-            freqs,
-            epochs,
-            prevs,
-            nexts,
-            arena,
-            index,
-            buckets,
-            spares,
-            state,
-            Key(item),
-        );
-        state = stored.state;
-        let answer = stored.answer;
-        let once = done_once(answer);
-        done += once;
-        i += 1;
+    for &item in items {
+        let answer = insert(guests, epochs, levels, state, Key(item));
+        done += done_once(answer);
     }
-    Batched {
-        done: done,
-        state: state,
-    }
+    done
 }
 
 // Hits each key that is bound.
 pub fn touch_batch(
     keys: &[u64],
-    freqs: &mut [u64],
-    epochs: &mut [u64],
-    prevs: &mut [u64],
-    nexts: &mut [u64],
     index: &[u64],
-    buckets: &mut [u64],
-    spares: &mut [u64],
-    mut state: State,
+    epochs: &mut [u64],
+    levels: &mut Levels<&mut [u64]>,
+    state: &mut State,
     items: &[u64],
-) -> Batched
-    requires { Touchable (with keys.now freqs.old epochs.old prevs.old nexts.old index.now buckets.old spares.old) state }
-    ensures { TouchesAll items.now
-        (with keys.now freqs.old epochs.old prevs.old nexts.old index.now buckets.old spares.old) state
-        (with keys.now freqs.new epochs.new prevs.new nexts.new index.now buckets.new spares.new) result }
+) -> u64
+    requires { SoundBeside kind.buckets (with keys.now index.now epochs.old (lent_levels levels.old)) state.old }
+    ensures same { SameLevels levels.old levels.new }
+    ensures does { DoesBeside kind.buckets (ledger.touch_batch items.now)
+        (with keys.now index.now epochs.old (lent_levels levels.old)) state.old (number_reply (Ok result))
+        (with keys.now index.now epochs.new (lent_levels levels.new)) state.new }
 {
     let mut done: u64 = 0;
-    let mut at = 0;
-    while at < items.len() {
-        let item = items[at];
-        let hit = buckets_calls::sound::touch(
+    for &item in items {
+        let answer = touch(
             keys,
-            freqs,
-            epochs,
-            prevs,
-            nexts,
             index,
-            buckets,
-            spares,
+            epochs,
+            levels,
             state,
             Key(item),
             Frequency::CEILING,
         );
-        state = hit.state;
-        let answer = hit.answer;
-        let once = leveled_once(answer);
-        done += once;
-        at += 1;
+        done += done_once(answer);
     }
-    Batched {
-        done: done,
-        state: state,
-    }
+    done
 }
 
 // Lets go each key that is bound.
 pub fn remove_batch(
-    keys: &mut [u64],
-    freqs: &mut [u64],
+    guests: &mut Guests<&mut [u64]>,
     epochs: &mut [u64],
-    prevs: &mut [u64],
-    nexts: &mut [u64],
-    arena: &mut [u64],
-    index: &mut [u64],
-    buckets: &mut [u64],
-    spares: &mut [u64],
-    mut state: State,
+    levels: &mut Levels<&mut [u64]>,
+    state: &mut State,
     items: &[u64],
-) -> Batched
-    requires { Sound kind.buckets (lent keys.old freqs.old epochs.old prevs.old nexts.old arena.old index.old buckets.old spares.old) state }
-    ensures { Does kind.buckets (ledger.remove_batch items.now)
-        (lent keys.old freqs.old epochs.old prevs.old nexts.old arena.old index.old buckets.old spares.old) state (number_reply result.done)
-        (lent keys.new freqs.new epochs.new prevs.new nexts.new arena.new index.new buckets.new spares.new) result.state }
+) -> u64
+    requires { Sound kind.buckets (lent guests.old epochs.old levels.old) state.old }
+    ensures same { Same guests.old guests.new levels.old levels.new }
+    ensures does { Does kind.buckets (ledger.remove_batch items.now)
+        (lent guests.old epochs.old levels.old) state.old (number_reply (Ok result))
+        (lent guests.new epochs.new levels.new) state.new }
 {
     let mut done: u64 = 0;
-    let mut i = 0;
-    while i < items.len() {
-        let item = items[i];
-        let gone = buckets_calls::sound::remove(
-            keys,
-            freqs,
-            epochs,
-            prevs,
-            nexts,
-            arena,
-            index,
-            buckets,
-            spares,
-            state,
-            Key(item),
-        );
-        state = gone.state;
-        let answer = gone.answer;
-        let once = leveled_once(answer);
-        done += once;
-        i += 1;
+    for &item in items {
+        let answer = remove(guests, epochs, levels, state, Key(item));
+        done += done_once(answer);
     }
-    Batched {
-        done: done,
-        state: state,
-    }
+    done
 }

@@ -2,4 +2,3 @@ pub mod Sides
 pub mod Wanted
 pub mod Built
 pub mod Steps
-pub mod Sizes

@@ -6,13 +6,14 @@ ghost use Rattle.std.specs.Prelude.{◌≡◌, true, ◌↔◌, ◌+◌, ◌<◌
 ghost use Rattle.numbers.specs.Marks.{LIMIT};
 ghost use Rattle.promise.specs.Promise.{Checks, Sound};
 ghost use Rattle.promise.specs.Making.{Measures};
-ghost use Rattle.buckets_tables.specs.Slices.{lent};
+ghost use Rattle.buckets_tables.specs.Slices.{joined, shown};
 ghost use Rattle.buckets_tables.specs.Lent as kind;
 ghost use Rattle.buckets_check.specs.Check.{SlotTables, PartTables, Beside, Off, Agree, AgreeBelow, SlotAllowed};
 
 use bucket_table::WORDS;
-use buckets_tables::State;
-use numbers::{Answer, LIMIT, Slot};
+use buckets_tables::{GuestTables, Guests, State};
+use levels::{LevelTables, Levels};
+use numbers::{LIMIT, Refusal, Slot};
 
 // Whether the tables with a word for each slot are as long as the capacity.
 fn slot_tables_fit(
@@ -26,19 +27,11 @@ fn slot_tables_fit(
     ensures { (result ≡ true) ↔ SlotTables
         keys.now freqs.now epochs.now prevs.now nexts.now capacity }
 {
-    if keys.len() as u64 != capacity {
-        return false;
-    }
-    if freqs.len() as u64 != capacity {
-        return false;
-    }
-    if epochs.len() as u64 != capacity {
-        return false;
-    }
-    if prevs.len() as u64 != capacity {
-        return false;
-    }
-    nexts.len() as u64 == capacity
+    keys.len() as u64 == capacity
+        && freqs.len() as u64 == capacity
+        && epochs.len() as u64 == capacity
+        && prevs.len() as u64 == capacity
+        && nexts.len() as u64 == capacity
 }
 
 // Whether the tables of the parts are as long as the capacity calls for.
@@ -53,16 +46,10 @@ fn part_tables_fit(
     ensures { (result ≡ true) ↔ PartTables
         arena.now index.now buckets.now spares.now capacity }
 {
-    if arena.len() as u64 != capacity {
-        return false;
-    }
-    if index.len() as u64 != capacity + capacity {
-        return false;
-    }
-    if buckets.len() as u64 != capacity * WORDS {
-        return false;
-    }
-    spares.len() as u64 == capacity
+    arena.len() as u64 == capacity
+        && index.len() as u64 == capacity + capacity
+        && buckets.len() as u64 == capacity * WORDS
+        && spares.len() as u64 == capacity
 }
 
 // Whether a slot is free in these tables.
@@ -70,16 +57,10 @@ fn is_off(keys: &[u64], epochs: &[u64], arena: &[u64], index: &[u64], slot: usiz
     requires { (slot < length keys.now) × (length epochs.now ≡ length keys.now) × (length index.now ≡ length keys.now + length keys.now) }
     ensures { (result ≡ true) ↔ Off keys.now epochs.now arena.now index.now slot }
 {
-    if slot_arena::in_use(arena, Slot(slot as u64)) {
-        return false;
-    }
-    if key_index::has(index, Slot(slot as u64)) {
-        return false;
-    }
-    if keys[slot] != 0 {
-        return false;
-    }
-    epochs[slot] == 0
+    !slot_arena::in_use(arena, Slot(slot as u64))
+        && !key_index::has(index, Slot(slot as u64))
+        && keys[slot] == 0
+        && epochs[slot] == 0
 }
 
 // Whether the tables agree on a slot.
@@ -96,12 +77,10 @@ fn slot_agrees(
         keys.now epochs.now nexts.now arena.now index.now slot }
 {
     if levels::is_free(nexts, Slot(slot as u64)) {
-        return is_off(keys, epochs, arena, index, slot);
+        is_off(keys, epochs, arena, index, slot)
+    } else {
+        slot_arena::in_use(arena, Slot(slot as u64)) && key_index::has(index, Slot(slot as u64))
     }
-    if !slot_arena::in_use(arena, Slot(slot as u64)) {
-        return false;
-    }
-    key_index::has(index, Slot(slot as u64))
 }
 
 // Whether the tables agree on every slot.
@@ -110,111 +89,86 @@ fn slots_agree(keys: &[u64], epochs: &[u64], nexts: &[u64], arena: &[u64], index
     ensures { (result ≡ true) ↔ AgreeBelow
         keys.now epochs.now nexts.now arena.now index.now (length keys.now) }
 {
-    let mut slot: usize = 0;
-    while slot < keys.len() {
-        if !slot_agrees(keys, epochs, nexts, arena, index, slot) {
-            return false;
-        }
-        slot += 1;
-    }
-    true
+    (0..keys.len()).all(|slot| slot_agrees(keys, epochs, nexts, arena, index, slot))
 }
 
 // Whether tables of the right lengths hold a ledger.
-fn is_sound(
-    keys: &[u64],
-    freqs: &[u64],
-    epochs: &[u64],
-    prevs: &[u64],
-    nexts: &[u64],
-    arena: &[u64],
-    index: &[u64],
-    buckets: &[u64],
-    spares: &[u64],
-    state: State,
-) -> bool
-    requires { SlotAllowed (lent keys.now freqs.now epochs.now prevs.now nexts.now arena.now index.now buckets.now spares.now) state.capacity }
-    ensures { (result ≡ true) ↔ Sound kind.buckets (lent keys.now freqs.now epochs.now prevs.now nexts.now arena.now index.now buckets.now spares.now) state }
+fn is_sound(guests: &Guests<&[u64]>, epochs: &[u64], levels: &Levels<&[u64]>, state: State) -> bool
+    requires { SlotAllowed (shown guests.now epochs.now levels.now) state.capacity }
+    ensures { (result ≡ true) ↔ Sound kind.buckets (shown guests.now epochs.now levels.now) state }
 {
-    if !slot_arena::is_sound(arena, state.free) {
+    if !slot_arena::is_sound(guests.arena, state.free)
+        || !key_index::is_sound(guests.index, guests.keys)
+        || !levels::is_sound(levels, state.buckets)
+        || !slots_agree(
+            guests.keys,
+            epochs,
+            levels.nexts,
+            guests.arena,
+            guests.index,
+        )
+        || state.count != slot_arena::count_used(guests.arena)
+    {
         return false;
     }
-    if !key_index::is_sound(index, keys) {
-        return false;
-    }
-    if !levels::is_sound(freqs, prevs, nexts, buckets, spares, state.buckets) {
-        return false;
-    }
-    if !slots_agree(keys, epochs, nexts, arena, index) {
-        return false;
-    }
-    if state.count != slot_arena::count_used(arena) {
-        return false;
-    }
-    state.lowest == levels::sound::lowest_frequency(buckets, state.buckets).0
+    state.lowest == levels::sound::lowest_frequency(levels.buckets, state.buckets).0
 }
 
-// Why tables cannot serve a capacity: Capacity or Short; or Done, where they have the lengths that it calls for.
-pub fn misfit(
-    keys: &[u64],
-    freqs: &[u64],
+// Whether tables of a capacity have the lengths that it calls for, and it is not above the limit.
+fn fits(
+    guests: &Guests<&[u64]>,
     epochs: &[u64],
-    prevs: &[u64],
-    nexts: &[u64],
-    arena: &[u64],
-    index: &[u64],
-    buckets: &[u64],
-    spares: &[u64],
+    levels: &Levels<&[u64]>,
     capacity: u64,
-) -> Answer
-    ensures { Measures kind.buckets (lent keys.now freqs.now epochs.now prevs.now nexts.now arena.now index.now buckets.now spares.now) capacity result }
+) -> Result<(), Refusal>
+    ensures { Measures kind.buckets (shown guests.now epochs.now levels.now) capacity result }
 {
     if LIMIT < capacity {
-        return Answer::Capacity;
+        return Err(Refusal::Capacity);
     }
-    if !slot_tables_fit(keys, freqs, epochs, prevs, nexts, capacity) {
-        return Answer::Short;
+    if !slot_tables_fit(
+        guests.keys,
+        levels.freqs,
+        epochs,
+        levels.prevs,
+        levels.nexts,
+        capacity,
+    ) || !part_tables_fit(
+        guests.arena,
+        guests.index,
+        levels.buckets,
+        levels.spares,
+        capacity,
+    ) {
+        return Err(Refusal::Short);
     }
-    if !part_tables_fit(arena, index, buckets, spares, capacity) {
-        return Answer::Short;
-    }
-    Answer::Done
+    Ok(())
 }
 
-// Why a call on these tables is refused before it begins: Capacity, Short or Corrupt; or Done, where they hold a ledger.
-pub fn refusal(
-    keys: &[u64],
-    freqs: &[u64],
+// Whether tables can serve a capacity: else Capacity, where it is above the limit, or Short.
+pub fn measure<G: GuestTables, L: LevelTables>(
+    guests: &G,
     epochs: &[u64],
-    prevs: &[u64],
-    nexts: &[u64],
-    arena: &[u64],
-    index: &[u64],
-    buckets: &[u64],
-    spares: &[u64],
-    state: State,
-) -> Answer
-    ensures { Checks kind.buckets (lent keys.now freqs.now epochs.now prevs.now nexts.now arena.now index.now buckets.now spares.now) state result }
+    levels: &L,
+    capacity: u64,
+) -> Result<(), Refusal>
+    ensures { Measures kind.buckets (joined (G.lists guests.now) epochs.now (L.lists levels.now)) capacity result }
 {
-    let size = misfit(
-        keys,
-        freqs,
-        epochs,
-        prevs,
-        nexts,
-        arena,
-        index,
-        buckets,
-        spares,
-        state.capacity,
-    );
-    if !size.is_done() {
-        return size;
+    fits(&guests.shown(), epochs, &levels.shown(), capacity)
+}
+
+// Whether tables and state hold a ledger: every call asks this before it begins, and is refused where they do not.
+pub fn check<G: GuestTables, L: LevelTables>(
+    guests: &G,
+    epochs: &[u64],
+    levels: &L,
+    state: State,
+) -> Result<(), Refusal>
+    ensures { Checks kind.buckets (joined (G.lists guests.now) epochs.now (L.lists levels.now)) state result }
+{
+    measure(guests, epochs, levels, state.capacity)?;
+    if !is_sound(&guests.shown(), epochs, &levels.shown(), state) {
+        return Err(Refusal::Corrupt);
     }
-    if !is_sound(
-        keys, freqs, epochs, prevs, nexts, arena, index, buckets, spares, state,
-    ) {
-        return Answer::Corrupt;
-    }
-    Answer::Done
+    Ok(())
 }

@@ -7,8 +7,9 @@ use Prim.Native.Nat.{ℕ, ◌<◌}
 use native.Mathlib.Omega.{arith}
 use lib.Dec.{eqb}
 use lib.ListN.{length}
-use Rattle.numbers.specs.Marks.{NONE}
-use Rattle.numbers.specs.declared.Answer.TheVariants.{Absent, Empty}
+use Rattle.std.proofs.Common.{Option as Maybe, Some, None}
+use Rattle.std.specs.Option.{is_some}
+use Rattle.numbers.specs.declared.Refusal.TheVariants.{Absent, Empty}
 use Rattle.numbers.specs.declared.Slot.{Slot}
 use Rattle.ledger.specs.Ledger.{Entry, Level, Ledger, Item, if_found, lookup, tail, lowest, NonEmpty, Rising}
 use Rattle.ledger.specs.Buckets.{Outcome, done, refused, yes_no, contains, frequency, entry_epoch, current_epoch, len, is_empty, min_freq, peek_min}
@@ -16,36 +17,33 @@ use Rattle.ledger.specs.Counts.{bucket_len, len_up_to}
 use Rattle.promise.specs.Promise.{Tells}
 use Rattle.links.specs.Chain.{cells}
 use Rattle.key_index.specs.Index as index
-use Rattle.key_index.specs.declared.Found.TheVariants.{At, Nothing}
-use Rattle.key_index.specs.Index.{IndexSound}
 use Rattle.levels.specs.Levels as levels
-use Rattle.levels.specs.Calls.{Counts, CountsUpTo}
+use Rattle.levels.specs.Calls.{Names, Lowest, Counts, CountsUpTo}
 use Rattle.buckets_tables.specs.declared.State.{State}
 use Rattle.buckets_tables.specs.Tables.{Tables}
 use Rattle.buckets_tables.specs.Holds.{lowest_of, Holds}
 use Rattle.buckets_tables.proofs.Found.{Stands, found_at, found_nothing, lowest_nothing}
-use Rattle.buckets_tables.proofs.Doing.{least, stands_x}
+use Rattle.buckets_tables.proofs.Asked.{slot_limit, slot_sized}
+use Rattle.buckets_tables.proofs.Doing.{least, stands_x, pop_bound}
 use Rattle.buckets_tables.proofs.Sizes.{size_at_lem, size_up_to_lem}
 use Rattle.buckets_tables.specs.Lent.{buckets}
+use Rattle.buckets_reads.specs.Reads.{Peekable}
 
 -- A key that the index finds, or does not
-
--- a slot that is found lies in the tables, and its number is small enough for a place in memory
-pub found_below : (i k : List ℕ) (key : ℕ) (x : Slot) → IndexSound i k → index.Finds i k key (At x) → (x.0 < length k) × (x.0 < 4096)
-found_below i k key x w f = let a = w.limit in let b = f.0.0 in (b, omega arith)
 
 -- what a call says that asks for one number of a bound key
 abbrev asked : (Item → ℕ) → ℕ → Ledger → Outcome
 asked g k l = if_found (lookup k l) (refused Absent, l) (λ y. (done (g y ∷ []), l))
 
 module _ (t : Tables) (s : State) (key : ℕ) where
-  module _ (absent : index.Finds t.index t.keys key Nothing) where
+  pub contains_told : (r : Maybe Slot) → index.Finds t.index t.keys key r → Tells buckets (contains key) t s (done (yes_no (is_some r) ∷ []))
+  unfolding contains
+  contains_told (Some x) f l h = rw (found_at t s l h key x f).found
+  contains_told None f l h = rw (found_nothing t s l h key f)
+
+  module _ (absent : index.Finds t.index t.keys key None) where
     asked_absent : (g : Item → ℕ) → Tells buckets (asked g key) t s (refused Absent)
     asked_absent g l h = rw (found_nothing t s l h key absent)
-
-    pub contains_no : Tells buckets (contains key) t s (done (0 ∷ []))
-    unfolding contains
-    contains_no l h = rw (found_nothing t s l h key absent)
 
     pub frequency_absent : Tells buckets (frequency key) t s (refused Absent)
     unfolding frequency
@@ -55,15 +53,11 @@ module _ (t : Tables) (s : State) (key : ℕ) where
     unfolding entry_epoch
     epoch_absent = asked_absent (λ y. y.epoch)
 
-  module _ (x : Slot) (at_x : index.Finds t.index t.keys key (At x)) where
+  module _ (x : Slot) (at_x : index.Finds t.index t.keys key (Some x)) where
     asked_found : (g : Item → ℕ) (n : ℕ) → ((l : Ledger) (h : Holds t s l) (y : Item) → Stands t s l h y x.0 → n ≡ g y) → Tells buckets (asked g key) t s (done (n ∷ []))
     asked_found g n same l h =
         let w = found_at t s l h key x at_x in
         rw w.found (ap (λ (m : ℕ). done (m ∷ [])) (same l h w.item_is w.there_is))
-
-    pub contains_yes : Tells buckets (contains key) t s (done (1 ∷ []))
-    unfolding contains
-    contains_yes l h = rw (found_at t s l h key x at_x).found
 
     pub frequency_found : Tells buckets (frequency key) t s (done (cells t.freqs x.0 ∷ []))
     unfolding frequency
@@ -120,17 +114,25 @@ module _ (t : Tables) (s : State) where
 
 -- The tail of the lowest list
 
-module _ (t : Tables) (s : State) (x : ℕ) (low : (l : Ledger) (h : Holds t s l) → x ≡ levels.lowest h.slots) where
-  pub peek_empty : x ≡ NONE → Tells buckets peek_min t s (refused Empty)
+module _ (t : Tables) (s : State) where
+  pub peek_empty : ((l : Ledger) (h : Holds t s l) → Names None (levels.lowest h.slots)) → Tells buckets peek_min t s (refused Empty)
   unfolding peek_min
-  peek_empty e l h = rw (lowest_nothing t s l h (sym (low l h) ∙ e))
+  peek_empty low l h = rw (lowest_nothing t s l h (low l h))
 
-  pub peek_some : x ≢ NONE → Tells buckets peek_min t s (done (cells t.keys x ∷ cells t.freqs x ∷ []))
+  pub peek_some : (x : Slot) → ((l : Ledger) (h : Holds t s l) → Names (Some x) (levels.lowest h.slots)) →
+      Tells buckets peek_min t s (done (cells t.keys x.0 ∷ cells t.freqs x.0 ∷ []))
   unfolding peek_min
-  peek_some d l h =
-      let w = least t s x low d l h in
-      let st = stands_x t s x low d l h in
+  peek_some x low l h =
+      let w = least t s x low l h in
+      let st = stands_x t s x low l h in
       rw w.1.is (λ i. done (st.key i ∷ st.frequency i ∷ []))
+
+-- it lies in the tables, and its number is small enough for a place in memory
+pub peek_below : (k f b : List ℕ) (s : State) (x : Slot) → Peekable k f b s → Lowest b s.buckets (Some x) → (x.0 < 4096) × (x.0 < length k) × (x.0 < length f)
+peek_below k f b s x (e, p, n, a, i, sp, w) low =
+    let bound = pop_bound _ s x (λ l h. low.answer _ _ _ _ _ h.lists) w in
+    let z = slot_sized _ s x.0 bound in
+    (slot_limit _ s x.0 bound, z.0, z.3)
 
 -- The lengths of the lists
 

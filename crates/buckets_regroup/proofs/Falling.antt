@@ -9,7 +9,6 @@ use Rattle.lists.specs.Lists.{All}
 use Rattle.lists.proofs.Members.{all_map, in_mid}
 use Rattle.bucket_table.specs.declared.Buckets.{Buckets}
 use Rattle.bucket_table.specs.Records.{frequency, InTable}
-use Rattle.levels.specs.declared.Left.{Left}
 use Rattle.levels.specs.Levels.{Level, level, Nowhere, keep, join}
 use Rattle.levels.specs.Held.{Tabs, Held}
 use Rattle.levels.specs.Calls.{SlotBound, Leaving, Ready, LevelLeaves, LevelEnters}
@@ -65,7 +64,7 @@ module _ (g : ℕ → ℕ) (t : Tabs) (s : Buckets) (r x last : ℕ) where
     }
 
     -- it is another
-    module _ (low : Lowers g) (ne : h ≢ fr) (t₁ : Tabs) (o : Left) (lv : LevelLeaves t s x t₁ o) where
+    module _ (low : Lowers g) (ne : h ≢ fr) (t₁ : Tabs) (at₁ : ℕ) (s₁ : Buckets) (lv : LevelLeaves t s x t₁ at₁ s₁) where
       module _ (q : Falling g t s r x last) where
         abbrev rest : List Level
         rest = keep q.freq q.others q.upper
@@ -76,10 +75,10 @@ module _ (g : ℕ → ℕ) (t : Tabs) (s : Buckets) (r x last : ℕ) where
             keep_append (under q.lower []) q.freq (q.others ++ []) q.upper
             ∙ ap (λ (zs : List ℕ). under q.lower [] ++ keep q.freq zs q.upper) (append-nil q.others) ∙ sym (under_is q.lower rest)
 
-        rest_held : Held t₁ o.state (under q.lower rest)
+        rest_held : Held t₁ s₁ (under q.lower rest)
         rest_held =
-            subst (Held t₁ o.state) rest_is
-            (parted_held t₁ o.state o.at (under q.lower [] ++ keep q.freq (q.others ++ []) []) q.upper
+            subst (Held t₁ s₁) rest_is
+            (parted_held t₁ s₁ at₁ (under q.lower [] ++ keep q.freq (q.others ++ []) []) q.upper
             (lv.holds (under q.lower []) q.freq q.others [] q.upper (falling_held q)))
 
         rest_away : Nowhere x (under q.lower rest)
@@ -95,16 +94,16 @@ module _ (g : ℕ → ℕ) (t : Tabs) (s : Buckets) (r x last : ℕ) where
             (all_map (λ l. q.freq < l.freq) (λ l. h < l.freq) (λ l b. omega arith) q.upper (falling_order q).2)
 
         pub left_reachable : Reachable t₁.buckets last
-        left_reachable = top_reachable t₁ o.state q.lower rest last q.top rest_held
+        left_reachable = top_reachable t₁ s₁ q.lower rest last q.top rest_held
 
         -- where the slot enters
-        place : Placed t₁ o.state (place_above t₁.buckets last h) h q.lower rest
-        place = let b = new_is q in let c = q.low in placed t₁ o.state h rest rest_above q.lower last q.top (omega arith) rest_held
+        place : Placed t₁ s₁ (place_above t₁.buckets last h) h q.lower rest
+        place = let b = new_is q in let c = q.low in placed t₁ s₁ h rest rest_above q.lower last q.top (omega arith) rest_held
 
         place_away : Nowhere x (place.us ++ place.ws)
         place_away = subst (Nowhere x) (sym place.whole) rest_away
 
-        pub left_ready : (at : ℕ) → at ≡ place_above t₁.buckets last h → Ready t₁ o.state at x
+        pub left_ready : (at : ℕ) → at ≡ place_above t₁.buckets last h → Ready t₁ s₁ at x
         left_ready at ea = record {
           us = place.us;
           vs = place.ws;
@@ -113,14 +112,14 @@ module _ (g : ℕ → ℕ) (t : Tabs) (s : Buckets) (r x last : ℕ) where
           away = place_away;
         }
 
-        falls_to : (t' : Tabs) (s' : Buckets) → LevelEnters t₁ o.state (place_above t₁.buckets last h) h x t' s'
+        falls_to : (t' : Tabs) (s' : Buckets) → LevelEnters t₁ s₁ (place_above t₁.buckets last h) h x t' s'
             → Held t' s' (under (join x h q.lower) rest)
         falls_to t' s' en =
             let a = lower in let b = new_is q in let c = (falling_order q).1 in let d = low.some q.freq in
             subst (Held t' s') (place.joins x)
             (en.holds place.us place.ws (omega arith) (omega arith) place.below place.from place_away place.parted)
 
-      pub falls_in : (at : ℕ) → at ≡ place_above t₁.buckets last h → (t' : Tabs) (s' : Buckets) → LevelEnters t₁ o.state at h x t' s'
+      pub falls_in : (at : ℕ) → at ≡ place_above t₁.buckets last h → (t' : Tabs) (s' : Buckets) → LevelEnters t₁ s₁ at h x t' s'
           → Falls g t s r x last t' s'
       falls_in at ea t' s' en = record {
         falls = λ q l. rw (← new_is q) (falls_to q t' s' (rw ea at en));

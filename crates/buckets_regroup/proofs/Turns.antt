@@ -30,14 +30,6 @@ use Rattle.buckets_regroup.proofs.Settled.{onto, onto_falls, onto_rising}
 use Rattle.buckets_regroup.proofs.Tops.{record_of, top_bound, parted_top}
 use Rattle.buckets_regroup.proofs.Falling.{keep_above, falling_record, falling_order}
 
--- five tables as long as five others
-pub record SameSizes (t t' : Tabs) : Type 0 where
-  pub freqs_size : length t'.freqs ≡ length t.freqs
-  pub prevs_size : length t'.prevs ≡ length t.prevs
-  pub nexts_size : length t'.nexts ≡ length t.nexts
-  pub buckets_size : length t'.buckets ≡ length t.buckets
-  pub spares_size : length t'.spares ≡ length t.spares
-
 -- some levels are finished, and `last` is a slot of the highest of them; the levels ls were there at first
 pub record Reached (g : ℕ → ℕ) (ls : List Level) (t : Tabs) (s : Buckets) (last : ℕ) : Type 0 where
   pub finished : List Level

@@ -9,7 +9,8 @@ use numbers::Frequency;
 
 pub mod sound;
 
-// What becomes of a frequency: it is halved some times over, or lowered by a number, but never below the first level.
+// What becomes of a frequency: it is halved some times over, or lowered by a number, but never below the first level. An enum and not a closure:
+// `changed` says of it what a closure's contract would have to say at every step.
 #[derive(Clone, Copy)]
 enum Change {
     Halved(u64),

@@ -1,8 +1,9 @@
 -- What binding, hitting, restarting and letting go ask of the layers below, and that they keep their promises: the needs of those four
 -- functions, each from one law of Steps.antt.
-use Rattle.std.proofs.Common.{◌≡◌, ℕ, ◌+◌, ◌-◌, ◌^◌, ◌<◌, ◌≤◌, List, length, get_or, set, sym, refl, ap, ◌∙◌, subst, arith, length-set}
+use Rattle.std.proofs.Common.{◌≡◌, ℕ, ◌+◌, ◌-◌, ◌^◌, ◌<◌, ◌≤◌, List, length, get_or, set, sym, refl, ap, ◌∙◌, subst, arith, length-set, MutBor}
 use Rattle.numbers.specs.Frequency.{raised}
 use Rattle.numbers.specs.declared.Frequency.{Frequency}
+use Rattle.numbers.specs.declared.Slot.{Slot}
 use Rattle.lists.specs.Lists.{In, Without, one}
 use Rattle.lists.proofs.Tests.{one_same}
 use Rattle.lists.proofs.Members.{in_length, in_sum}
@@ -10,16 +11,18 @@ use Rattle.lists.proofs.Maps.{images_all}
 use Rattle.ledger.specs.Ledger.{Ledger, Item, items, put, release, move, restart}
 use Rattle.ledger.proofs.Slots.{free_slot, bound_slot, size_and_free}
 use Rattle.slot_arena.specs.Arena as arena
-use Rattle.slot_arena.specs.declared.Taken.{Taken}
 use Rattle.slot_arena.specs.declared.Order.{Order}
 use Rattle.bucket_table.specs.declared.Buckets.{Buckets}
 use Rattle.levels.specs.Levels as levels
 use Rattle.levels.specs.Levels.{Nowhere}
-use Rattle.levels.specs.Held.{Line, tabs}
+use Rattle.levels.specs.Held.{Line, Tabs, tabs}
+use Rattle.levels.specs.Slices.{lent as levels_lent, SameLevels}
+use Rattle.levels.specs.declared.Levels.{Levels}
 use Rattle.levels.specs.Calls as asks
 use Rattle.levels.specs.Calls.{LowestFrequency, SoundWith, SlotBound, LevelTouches, LevelRestarts, LevelBinds}
-use Rattle.levels.specs.declared.Touched.{Touched}
 use Rattle.buckets_tables.specs.declared.State.{State}
+use Rattle.buckets_tables.specs.declared.Guests.{Guests}
+use Rattle.buckets_tables.specs.Slices.{joined}
 use Rattle.buckets_tables.specs.Tables.{Tables, tables, leveled, Sized}
 use Rattle.buckets_tables.specs.Holds.{BoundSlot, Holds}
 use Rattle.buckets_tables.specs.Calls.{recounted, Room, Binds, BoundIn, Hits, Restarts, LetsGo, Vacant, EntersIndex, LeavesIndex}
@@ -91,11 +94,11 @@ module _ (t : Tables) (s : State) (key : ℕ) (r : Room t s key) where
   pub room_lists : (y : ℕ) (f' p' n' b' sp' : List ℕ) (bk : Buckets) → LevelBinds (leveled t) s.buckets y (tabs f' p' n' b' sp') bk → SoundWith b' bk
   room_lists y f' p' n' b' sp' bk binds = (f', p', n', sp', (_, binds.holds r.holds.slots r.holds.lists))
 
-  module _ (k' e' i' : List ℕ) (a' : List ℕ) (took : Taken) (takes : arena.Takes t.arena s.free a' took)
-      (enters : EntersIndex t.keys t.epochs t.index took.slot.0 key s.epoch k' e' i') (f' p' n' b' sp' : List ℕ) (bk : Buckets)
-      (binds : LevelBinds (leveled t) s.buckets took.slot.0 (tabs f' p' n' b' sp') bk) (low : ℕ) (reads : LowestFrequency b' bk low)
-      (sized : Sized (tables k' f' e' p' n' a' i' b' sp') l.capacity) (s' : State) (after : s' ≡ recounted s (s.count + 1) low took.order bk) where
-    pub bound_so : Binds t s key (tables k' f' e' p' n' a' i' b' sp') (record { slot = took.slot; state = s' })
+  module _ (k' e' i' : List ℕ) (a' : List ℕ) (took : Slot) (o' : Order) (takes : arena.Takes t.arena s.free a' took o')
+      (enters : EntersIndex t.keys t.epochs t.index took.0 key s.epoch k' e' i') (f' p' n' b' sp' : List ℕ) (bk : Buckets)
+      (binds : LevelBinds (leveled t) s.buckets took.0 (tabs f' p' n' b' sp') bk) (low : ℕ) (reads : LowestFrequency b' bk low)
+      (sized : Sized (tables k' f' e' p' n' a' i' b' sp') l.capacity) (s' : State) (after : s' ≡ recounted s (s.count + 1) low o' bk) where
+    pub bound_so : Binds t s key (tables k' f' e' p' n' a' i' b' sp') took s'
     bound_so = record {
       slot = takes.slot;
       holds = λ m rest h none' free_is.
@@ -103,7 +106,7 @@ module _ (t : Tables) (s : State) (key : ℕ) (r : Room t s key) where
           let bi = subst (λ (y : ℕ). LevelBinds (leveled t) s.buckets y (tabs f' p' n' b' sp') bk) takes.slot binds in
           let c : m.capacity ≡ l.capacity = sym h.capacity ∙ r.holds.capacity in
           subst (λ z. Holds (tables k' f' e' p' n' a' i' b' sp') z (put key x rest m)) (sym after)
-          (put_holds t s m h key x rest none' free_is k' e' i' en a' took takes f' p' n' b' sp' bk bi low reads (rw c sized));
+          (put_holds t s m h key x rest none' free_is k' e' i' en a' took o' takes f' p' n' b' sp' bk bi low reads (rw c sized));
     }
 
 -- A bound slot
@@ -139,8 +142,8 @@ module _ (t : Tables) (s : State) (x : ℕ) (r : BoundIn t s x) where
       let b = r.holds.count in
       omega arith
 
-  pub hit_lists_sound : (cap : ℕ) (f' p' n' b' sp' : List ℕ) (o : Touched) → LevelTouches (leveled t) s.buckets x cap (tabs f' p' n' b' sp') o → SoundWith b' o.state
-  hit_lists_sound cap f' p' n' b' sp' o touches = (f', p', n', sp', (_, touches.holds slot_in_lists.us slot_in_lists.freq slot_in_lists.xs slot_in_lists.ys slot_in_lists.vs slot_in_lists.held))
+  pub hit_lists_sound : (cap : ℕ) (f' p' n' b' sp' : List ℕ) (g : Frequency) (bk : Buckets) → LevelTouches (leveled t) s.buckets x cap (tabs f' p' n' b' sp') g bk → SoundWith b' bk
+  hit_lists_sound cap f' p' n' b' sp' g bk touches = (f', p', n', sp', (_, touches.holds slot_in_lists.us slot_in_lists.freq slot_in_lists.xs slot_in_lists.ys slot_in_lists.vs slot_in_lists.held))
 
   pub restart_lists_sound : (f' p' n' b' sp' : List ℕ) (bk : Buckets) → LevelRestarts (leveled t) s.buckets x (tabs f' p' n' b' sp') bk → SoundWith b' bk
   restart_lists_sound f' p' n' b' sp' bk restarts = (f', p', n', sp', (_, restarts.holds slot_in_lists.us slot_in_lists.freq slot_in_lists.xs slot_in_lists.ys slot_in_lists.vs slot_in_lists.held))
@@ -158,35 +161,47 @@ at_place t s l h x y i q =
 
 -- A bound slot moves: a hit or a restart
 
-module _ (f e p n b sp : List ℕ) (s : State) (x : ℕ) (f' p' n' b' sp' : List ℕ) (bk : Buckets) (e' : List ℕ) (low : ℕ) (s' : State)
-    (epochs_are : e' ≡ set e x s.epoch) (reads : LowestFrequency b' bk low) (after : s' ≡ recounted s s.count low s.free bk)
-    (lf : length f' ≡ length f) (lp : length p' ≡ length p) (ln : length n' ≡ length n) (lb : length b' ≡ length b) (ls : length sp' ≡ length sp) where
-  sized_moved : (k a i : List ℕ) (c : ℕ) → Sized (tables k f e p n a i b sp) c → Sized (tables k f' e' p' n' a i b' sp') c
-  sized_moved k a i c z =
-      sized_like (tables k f e p n a i b sp) c z k f' e' p' n' a i b' sp' refl lf (ap (λ u. length u) epochs_are ∙ length-set e x s.epoch) lp ln refl refl lb ls
+-- the levels' tables have the lengths that they had
+pub record AsLong (v v' : Tabs) : Type 0 where
+  pub freqs : length v'.freqs ≡ length v.freqs
+  pub prevs : length v'.prevs ≡ length v.prevs
+  pub nexts : length v'.nexts ≡ length v.nexts
+  pub buckets : length v'.buckets ≡ length v.buckets
+  pub spares : length v'.spares ≡ length v.spares
 
-  pub hit_so : (cap : ℕ) (frequency : Frequency) → LevelTouches (tabs f p n b sp) s.buckets x cap (tabs f' p' n' b' sp') (record { frequency = frequency; state = bk }) →
-      Hits f e p n b sp s x cap f' e' p' n' b' sp' (record { frequency = frequency; state = s' })
+pub as_long : (l l' : Levels (MutBor (List ℕ))) → SameLevels l l' → AsLong (levels_lent l) (levels_lent l')
+as_long l l' same =
+    record { freqs = same.freqs_size; prevs = same.prevs_size; nexts = same.nexts_size; buckets = same.buckets_size; spares = same.spares_size }
+
+module _ (e : List ℕ) (v : Tabs) (s : State) (x : ℕ) (v' : Tabs) (bk : Buckets) (e' : List ℕ) (low : ℕ) (s' : State)
+    (epochs_are : e' ≡ set e x s.epoch) (reads : LowestFrequency v'.buckets bk low) (after : s' ≡ recounted s s.count low s.free bk) (long : AsLong v v') where
+  sized_moved : (g : Guests (List ℕ)) (c : ℕ) → Sized (joined g e v) c → Sized (joined g e' v') c
+  sized_moved g c z =
+      sized_like (joined g e v) c z g.keys v'.freqs e' v'.prevs v'.nexts g.arena g.index v'.buckets v'.spares refl long.freqs
+      (ap (λ u. length u) epochs_are ∙ length-set e x s.epoch) long.prevs long.nexts refl refl long.buckets long.spares
+
+  pub hit_so : (cap : ℕ) (frequency : Frequency) → LevelTouches v s.buckets x cap v' frequency bk →
+      Hits e v s x cap e' v' frequency s'
   hit_so cap frequency touches = record {
-    answer = λ k a i l y h j q.
-        let t = tables k f e p n a i b sp in
+    answer = λ g l y h j q.
+        let t = joined g e v in
         let w = at_place t s l h x y j q in
         rw w.1 (touches.answer w.0.us w.0.freq w.0.xs w.0.ys w.0.vs (held_there t s l h x w.0));
-    holds = λ k a i l y h j q fits.
-        let t = tables k f e p n a i b sp in
+    holds = λ g l y h j q fits.
+        let t = joined g e v in
         let w = at_place t s l h x y j q in
-        rw w.1 (subst (λ z. Holds (tables k f' e' p' n' a i b' sp') z (move (there t s l h x w.0) (raised cap w.0.freq) l)) (sym after)
-        (hit_holds t s l h x w.0 f' p' n' b' sp' bk e' epochs_are low reads (sized_moved k a i l.capacity h.sized) cap fits
+        rw w.1 (subst (λ z. Holds (joined g e' v') z (move (there t s l h x w.0) (raised cap w.0.freq) l)) (sym after)
+        (hit_holds t s l h x w.0 v'.freqs v'.prevs v'.nexts v'.buckets v'.spares bk e' epochs_are low reads (sized_moved g l.capacity h.sized) cap fits
         (touches.holds w.0.us w.0.freq w.0.xs w.0.ys w.0.vs (held_there t s l h x w.0))));
   }
 
-  pub restart_so : LevelRestarts (tabs f p n b sp) s.buckets x (tabs f' p' n' b' sp') bk → Restarts f e p n b sp s x f' e' p' n' b' sp' s'
+  pub restart_so : LevelRestarts v s.buckets x v' bk → Restarts e v s x e' v' s'
   restart_so restarts = record {
-    holds = λ k a i l y h j q.
-        let t = tables k f e p n a i b sp in
+    holds = λ g l y h j q.
+        let t = joined g e v in
         let w = at_place t s l h x y j q in
-        rw w.1 (subst (λ z. Holds (tables k f' e' p' n' a i b' sp') z (restart (there t s l h x w.0) l)) (sym after)
-        (restart_holds t s l h x w.0 f' p' n' b' sp' bk e' epochs_are low reads (sized_moved k a i l.capacity h.sized)
+        rw w.1 (subst (λ z. Holds (joined g e' v') z (restart (there t s l h x w.0) l)) (sym after)
+        (restart_holds t s l h x w.0 v'.freqs v'.prevs v'.nexts v'.buckets v'.spares bk e' epochs_are low reads (sized_moved g l.capacity h.sized)
         (restarts.holds w.0.us w.0.freq w.0.xs w.0.ys w.0.vs (held_there t s l h x w.0))));
   }
 

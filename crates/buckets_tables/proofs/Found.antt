@@ -1,6 +1,6 @@
 -- What is found in the tables is what the ledger has: the slot of a key, the frequency of a slot, the tail of the lowest list. Carried
 -- by the index having exactly the bound slots, and by the one item at a slot's place.
-use Rattle.std.proofs.Common.{◌≡◌, ℕ, ◌<◌, ◌≢◌, ◌⊎◌, List, [], ◌∷◌, ◌++◌, get_or, sym, refl, ap, ◌∙◌, subst, inl, inr, ⊎_elim, arith}
+use Rattle.std.proofs.Common.{◌≡◌, ℕ, ◌<◌, ◌≢◌, ◌⊎◌, Some, None, List, [], ◌∷◌, ◌++◌, get_or, sym, refl, ap, ◌∙◌, subst, inl, inr, ⊎_elim, arith}
 use mathlib.Core.Option.{Option, none, some}
 use Rattle.numbers.specs.Marks.{NONE}
 use Rattle.numbers.specs.declared.Slot.{Slot}
@@ -15,7 +15,6 @@ use Rattle.ledger.proofs.Slots.{bound_slot}
 use Rattle.links.specs.Chain.{cells}
 use Rattle.bucket_table.specs.declared.Buckets.{Buckets}
 use Rattle.key_index.specs.Index as index
-use Rattle.key_index.specs.declared.Found.TheVariants.{At, Nothing}
 use Rattle.levels.specs.Levels as levels
 use Rattle.levels.specs.Held.{Line, Tabs, LineHeld, Held}
 use Rattle.buckets_tables.specs.declared.State.{State}
@@ -76,7 +75,7 @@ module _ (t : Tables) (s : State) (l : Ledger) (h : Holds t s l) where
     pub found : lookup key l ≡ some item_is
     pub there_is : Stands item_is x
 
-  pub found_at : (key : ℕ) (x : Slot) → index.Finds t.index t.keys key (At x) → Bound key x.0
+  pub found_at : (key : ℕ) (x : Slot) → index.Finds t.index t.keys key (Some x) → Bound key x.0
   found_at key x f =
       let p = bound_place t s l h x.0 ((h.indexed x.0).0 f.0) in
       record {
@@ -85,7 +84,7 @@ module _ (t : Tables) (s : State) (l : Ledger) (h : Holds t s l) where
         there_is = stands_there x.0 p;
       }
 
-  pub found_nothing : (key : ℕ) → index.Finds t.index t.keys key Nothing → lookup key l ≡ none
+  pub found_nothing : (key : ℕ) → index.Finds t.index t.keys key None → lookup key l ≡ none
   found_nothing key f = go (lookup key l) refl
     where
       go : (o : Option Item) → lookup key l ≡ o → o ≡ none

@@ -1,38 +1,37 @@
 -- How the public calls of the frequency buckets keep their promises, for every call at once; and that a promise leaves no choice.
-use Rattle.std.proofs.Common.{◌≡◌, ℕ, Bool, true, false, ◌⊎◌, ◌↔◌, ap, inl, inr}
-use Rattle.numbers.specs.declared.Answer.{Answer}
-use Rattle.numbers.specs.declared.Answer.TheVariants.{Done}
+use Rattle.std.proofs.Common.{◌≡◌, ℕ, ◌⊎◌, ap, sym, ◌∙◌, inl, inr, ⊎_elim, Result, Ok, Err}
+use Rattle.numbers.specs.declared.Refusal.{Refusal}
 use Rattle.ledger.specs.Ledger.{Ledger, new}
 use Rattle.ledger.specs.Buckets.{Reply, refused}
 use Rattle.ledger.specs.BucketCalls.{Query, BucketCall, Ask, calls, asks}
 use Rattle.ledger.proofs.Kept.{queries_leave}
 use Rattle.promise.specs.Promise.{Sound, Does, Tells, Makes, Answers, Checks}
 use Rattle.promise.specs.Making.{Made}
-use Rattle.promise.proofs.Agree.{Agree, promised_agree, made_agree}
+use Rattle.promise.proofs.Agree.{Agree, promised_agree, MakingsAgree, made_agree}
 use Rattle.promise.proofs.Promises as keeps
 use Rattle.buckets_tables.specs.declared.State.{State}
 use Rattle.buckets_tables.specs.Tables.{Tables}
 use Rattle.buckets_tables.specs.Holds.{Holds}
-use Rattle.buckets_tables.specs.Lent.{buckets, nothing}
+use Rattle.buckets_tables.specs.Lent.{buckets}
 use Rattle.buckets_tables.proofs.Read.{holds_one}
 use Rattle.buckets_tables.proofs.Determined.{Same, determined}
 
-module _ (t : Tables) (s : State) (a : Answer) (done : Bool) (c : Checks buckets t s a) (told : (done ≡ true) ↔ (a ≡ Done)) where
-  pub checked : done ≡ true → Sound buckets t s
-  checked e = keeps.sound_done buckets t s a done c told e
+module _ (t : Tables) (s : State) (a : Result Unit Refusal) (c : Checks buckets t s a) where
+  pub checked : (u : Unit) → a ≡ Ok u → Sound buckets t s
+  checked u e = keeps.sound_done buckets t s a c u e
 
   -- the call on sound tables does it
-  pub makes : (call : BucketCall) (r : Reply) (t' : Tables) (s' : State) → done ≡ true → Does buckets (calls call) t s r t' s' → Makes buckets call t s r t' s'
-  makes call r t' s' e d = keeps.makes buckets t s a done c told call r t' s' e d
+  pub makes : (call : BucketCall) (r : Reply) (t' : Tables) (s' : State) (u : Unit) → a ≡ Ok u → Does buckets (calls call) t s r t' s' → Makes buckets call t s r t' s'
+  makes call r t' s' u e d = keeps.makes buckets t s a c call r t' s' u e d
 
   -- or tells it
-  pub answers : (q : Query) (r : Reply) → done ≡ true → Tells buckets (asks q) t s r → Answers buckets (Ask q) t s r
+  pub answers : (q : Query) (r : Reply) (u : Unit) → a ≡ Ok u → Tells buckets (asks q) t s r → Answers buckets (Ask q) t s r
   unfolding calls
-  answers q r e d = keeps.answers buckets t s a done c told (Ask q) (queries_leave q) r e d
+  answers q r u e d = keeps.answers buckets t s a c (Ask q) (queries_leave q) r u e d
 
   -- the check's own refusal
-  pub refuses : (call : BucketCall) (r : Reply) → done ≡ false → r ≡ refused a → Makes buckets call t s r t s
-  refuses call r e told-so = keeps.refuses buckets t s a done c told call r e told-so
+  pub refuses : (call : BucketCall) (r : Reply) (why : Refusal) → a ≡ Err why → r ≡ refused why → Makes buckets call t s r t s
+  refuses call r why e told = keeps.refuses buckets t s a c call r why e told
 
 -- Two results that the promise of a call allows agree in the reply and in every cell that a ledger determines; and they have the same
 -- tables and state, or hold the same ledger. Only what docs/PLACEMENT.md lists may differ.
@@ -62,9 +61,9 @@ makes_agree call t s r q t' u' s' z' x y =
     let a = promised_agree buckets holds_one (calls call) t s r q t' u' s' z' x y in
     record { agree = a; same = same_after t' u' s' z' a.after }
 
--- And two results of making tables.
-pub makings_agree : (c : ℕ) (t : Tables) (r q : Reply) (t' u' : Tables) (s' z' : State) →
-    Made buckets nothing (new c) c t r t' s' → Made buckets nothing (new c) c t q u' z' → MakesAgree r t' s' q u' z'
-makings_agree c t r q t' u' s' z' x y =
-    let a = made_agree buckets holds_one nothing (new c) c t r q t' u' s' z' x y in
-    record { agree = a; same = same_after t' u' s' z' a.after }
+-- And two results of making tables: the same refusal and the same tables, or one ledger in both, and the same in every cell that it determines.
+pub makings_agree : (c : ℕ) (t : Tables) (r q : Result State Refusal) (t' u' : Tables) → Made buckets (new c) c t r t' → Made buckets (new c) c t q u' →
+    ((r ≡ q) × (t' ≡ u')) ⊎ ((s z : State) × (r ≡ Ok s) × (q ≡ Ok z) × ((l : Ledger) × Holds t' s l × Holds u' z l) × Same t' u' s z)
+makings_agree c t r q t' u' x y =
+    ⊎_elim (λ w. inl (w.1 ∙ sym w.2, w.3)) (λ w. inr (w.0, w.1, w.2, w.3, w.4, same_after t' u' w.0 w.1 (inr w.4)))
+    (made_agree buckets holds_one (new c) c t r q t' u' x y).after

@@ -1,8 +1,8 @@
 -- What the tables hold after an epoch is set: that of one entry, or the current one. A slot is the only one with its key, so a store
 -- into its cell of the epochs is the ledger's change; nothing else depends on epochs.
-use Rattle.std.proofs.Common.{◌≡◌, ℕ, ◌<◌, cond, eqb, List, [], ◌∷◌, length, set, sym, refl, ap, ◌∙◌, subst, inl, inr, arith, length-set, get_or-set_other, get_or-set_same}
+use Rattle.std.proofs.Common.{Some, None, ◌≡◌, ℕ, ◌<◌, cond, eqb, List, [], ◌∷◌, length, set, sym, refl, ap, ◌∙◌, subst, inl, inr, arith, length-set, get_or-set_other, get_or-set_same}
 use mathlib.Core.Option.{some}
-use Rattle.numbers.specs.declared.Answer.TheVariants.{Absent}
+use Rattle.numbers.specs.declared.Refusal.TheVariants.{Absent}
 use Rattle.numbers.specs.declared.Slot.{Slot}
 use Rattle.lists.specs.Lists.{In, one, times}
 use Rattle.lists.proofs.Tests.{if_eq}
@@ -15,7 +15,6 @@ use Rattle.ledger.proofs.Changes.{sum_redated, redated_formed, epoch_formed}
 use Rattle.promise.specs.Promise.{Does}
 use Rattle.links.specs.Chain.{cells}
 use Rattle.key_index.specs.Index as index
-use Rattle.key_index.specs.declared.Found.TheVariants.{At, Nothing}
 use Rattle.levels.specs.Levels as levels
 use Rattle.levels.specs.Levels.{members}
 use Rattle.buckets_tables.specs.declared.State.{State}
@@ -57,7 +56,7 @@ lowest_redated : (k n : ℕ) (ls : List Level) → lowest_of (redated k n ls) �
 lowest_redated k n [] = refl
 lowest_redated k n (l ∷ ls) = refl
 
-module _ (t : Tables) (s : State) (l : Ledger) (h : Holds t s l) (x : Slot) (key : ℕ) (at_x : index.Finds t.index t.keys key (At x)) where
+module _ (t : Tables) (s : State) (l : Ledger) (h : Holds t s l) (x : Slot) (key : ℕ) (at_x : index.Finds t.index t.keys key (Some x)) where
   -- two bound slots with one key are one
   own_key : (y : ℕ) → In y (members h.slots) → cells t.keys y ≡ cells t.keys x.0 → y ≡ x.0
   own_key y w q =
@@ -119,11 +118,11 @@ module _ (t : Tables) (s : State) (l : Ledger) (h : Holds t s l) (x : Slot) (key
 
 -- `set_entry_epoch`
 
-pub redate_absent : (t : Tables) (s : State) (key n : ℕ) → index.Finds t.index t.keys key Nothing → Does buckets (set_entry_epoch key n) t s (refused Absent) t s
+pub redate_absent : (t : Tables) (s : State) (key n : ℕ) → index.Finds t.index t.keys key None → Does buckets (set_entry_epoch key n) t s (refused Absent) t s
 unfolding set_entry_epoch
 redate_absent t s key n f = does_refuse (set_entry_epoch key n) t s Absent (λ l h. rw (found_nothing t s l h key f))
 
-pub redate_done : (k f e p n a i b sp : List ℕ) (s : State) (key epoch : ℕ) (x : Slot) → index.Finds i k key (At x) → (e' : List ℕ) → e' ≡ set e x.0 epoch →
+pub redate_done : (k f e p n a i b sp : List ℕ) (s : State) (key epoch : ℕ) (x : Slot) → index.Finds i k key (Some x) → (e' : List ℕ) → e' ≡ set e x.0 epoch →
     Does buckets (set_entry_epoch key epoch) (tables k f e p n a i b sp) s (done []) (tables k f e' p n a i b sp) s
 unfolding set_entry_epoch
 redate_done k f e p n a i b sp s key epoch x at_x e' is =

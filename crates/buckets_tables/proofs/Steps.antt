@@ -4,6 +4,7 @@
 use Rattle.std.proofs.Common.{◌≡◌, ℕ, ◌+◌, ◌-◌, ◌<◌, ◌≤◌, ◌≢◌, ◌⊎◌, ◌↔◌, List, [], ◌∷◌, ◌++◌, length, set, sym, refl, ap, ◌∙◌, subst, inl, inr, ⊎_elim, arith, length-append, length-set, get_or-set_other, get_or-set_same, lt-length-set}
 use mathlib.Core.Option.{none, some}
 use Rattle.numbers.specs.Frequency.{FIRST, CEILING, raised}
+use Rattle.numbers.specs.declared.Slot.{Slot}
 use Rattle.lists.specs.Lists.{All, Without, one, times}
 use Rattle.lists.proofs.Tests.{if_eq, one_same, one_other}
 use Rattle.lists.proofs.Members.{all_append, in_sum, times_without}
@@ -14,7 +15,6 @@ use Rattle.ledger.proofs.Changes.{put_formed, release_formed, move_formed, raise
 use Rattle.ledger.proofs.Split.{link_from, joined, rising_above}
 use Rattle.links.specs.Chain.{cells}
 use Rattle.slot_arena.specs.Arena as arena
-use Rattle.slot_arena.specs.declared.Taken.{Taken}
 use Rattle.slot_arena.specs.declared.Order.{Order}
 use Rattle.slot_arena.proofs.Free.{in_use_exact}
 use Rattle.bucket_table.specs.declared.Buckets.{Buckets}
@@ -115,13 +115,13 @@ module _ (t : Tables) (s : State) (l : Ledger) (h : Holds t s l) where
       zeros_now : All (Blank k' e') rest
       zeros_now = still_blank t.keys t.epochs k' e' x stays rest (times_without x rest first_free.1) (rw free_is at h.zeros).1
 
-      module _ (a' : List ℕ) (r : Taken) (takes : arena.Takes t.arena s.free a' r) (f' p' n' b' sp' : List ℕ) (bk : Buckets)
+      module _ (a' : List ℕ) (took : Slot) (o' : Order) (takes : arena.Takes t.arena s.free a' took o') (f' p' n' b' sp' : List ℕ) (bk : Buckets)
           (binds : LevelBinds (leveled t) s.buckets x (tabs f' p' n' b' sp') bk) (low : ℕ) (reads : LowestFrequency b' bk low)
           (sized : Sized (tables k' f' e' p' n' a' i' b' sp') l.capacity) where
         lists_now : Held (tabs f' p' n' b' sp') bk (join x FIRST h.slots)
         lists_now = binds.holds h.slots h.lists
 
-        pub put_holds : Holds (tables k' f' e' p' n' a' i' b' sp') (recounted s (s.count + 1) low r.order bk) (put key x rest l)
+        pub put_holds : Holds (tables k' f' e' p' n' a' i' b' sp') (recounted s (s.count + 1) low o' bk) (put key x rest l)
         put_holds =
             let formed = put_formed l h.formed key x rest (found_none key (items l.levels) absent) free_is in
             record {

@@ -3,18 +3,21 @@ use Rattle.std.specs.Prelude.{◌≡◌, ℕ, ◌+◌, ◌*◌, ◌%◌, ◌^◌
 use Rattle.std.proofs.Math.Option.{none}
 use Rattle.numbers.specs.Marks.{LIMIT}
 use Rattle.numbers.specs.Frequency.{CEILING, raised}
+use Rattle.numbers.specs.declared.Slot.{Slot}
+use Rattle.numbers.specs.declared.Frequency.{Frequency}
 use Rattle.lists.specs.Lists.{In}
 use Rattle.ledger.specs.Ledger.{Ledger, Item, new, items, lookup, put, release, move, restart}
 use Rattle.links.specs.Chain.{cells}
 use Rattle.slot_arena.specs.declared.Order.{Order}
 use Rattle.bucket_table.specs.declared.Buckets.{Buckets}
 use Rattle.bucket_table.specs.Records.{WORDS}
+use Rattle.levels.specs.Held.{Tabs, tabs}
 use Rattle.key_index.specs.Index as index
 use Rattle.key_index.specs.Index.{IndexSound}
 use Rattle.buckets_tables.specs.declared.State.{State}
-use Rattle.buckets_tables.specs.Tables.{Tables, tables, Sized}
-use Rattle.buckets_tables.specs.declared.Placed.{Placed}
-use Rattle.buckets_tables.specs.declared.Hit.{Hit}
+use Rattle.buckets_tables.specs.declared.Guests.{Guests}
+use Rattle.buckets_tables.specs.Slices.{joined}
+use Rattle.buckets_tables.specs.Tables.{Tables, Sized}
 use Rattle.buckets_tables.specs.Holds.{BoundSlot, Holds}
 
 -- the state with another count, lowest frequency, free order and bucket records
@@ -40,10 +43,10 @@ pub record Room (t : Tables) (s : State) (key : ℕ) : Type 0 where
   pub free_is : ledger.free ≡ s.free.first ∷ rest
 
 -- the key is bound in the first slot of the free order
-pub record Binds (t : Tables) (s : State) (key : ℕ) (t' : Tables) (r : Placed) : Type 0 where
-  pub slot : r.slot.0 ≡ s.free.first
+pub record Binds (t : Tables) (s : State) (key : ℕ) (t' : Tables) (x : Slot) (s' : State) : Type 0 where
+  pub slot : x.0 ≡ s.free.first
   pub holds : (l : Ledger) (rest : List ℕ) → Holds t s l → lookup key l ≡ none → l.free ≡ s.free.first ∷ rest →
-      Holds t' r.state (put key s.free.first rest l)
+      Holds t' s' (put key s.free.first rest l)
 
 -- the tables hold a ledger in which slot x is bound
 pub record BoundIn (t : Tables) (s : State) (x : ℕ) : Type 0 where
@@ -51,21 +54,20 @@ pub record BoundIn (t : Tables) (s : State) (x : ℕ) : Type 0 where
   pub holds : Holds t s ledger
   pub bound : BoundSlot ledger x
 
--- the same for six tables, with some keys, arena and index that are not lent
-abbrev pub Hittable : (f e p n b sp : List ℕ) → State → ℕ → Type 0
-Hittable f e p n b sp s x = (k : List ℕ) × (a : List ℕ) × (i : List ℕ) × BoundIn (tables k f e p n a i b sp) s x
+-- the same for epochs and levels, with some keys, arena and index that are not lent
+abbrev pub Hittable : (epochs : List ℕ) → Tabs → State → ℕ → Type 0
+Hittable e l s x = (g : Guests (List ℕ)) × BoundIn (joined g e l) s x
 
 -- the item in slot x is hit, up to a cap
-pub record Hits (f e p n b sp : List ℕ) (s : State) (x cap : ℕ) (f' e' p' n' b' sp' : List ℕ) (r : Hit) : Type 0 where
-  pub answer : (k a i : List ℕ) (l : Ledger) (y : Item) → Holds (tables k f e p n a i b sp) s l → In y (items l.levels) → y.slot ≡ x →
-      r.frequency.0 ≡ raised cap y.frequency
-  pub holds : (k a i : List ℕ) (l : Ledger) (y : Item) → Holds (tables k f e p n a i b sp) s l → In y (items l.levels) → y.slot ≡ x → cap ≤ CEILING →
-      Holds (tables k f' e' p' n' a i b' sp') r.state (move y (raised cap y.frequency) l)
+pub record Hits (e : List ℕ) (l : Tabs) (s : State) (x cap : ℕ) (e' : List ℕ) (l' : Tabs) (f : Frequency) (s' : State) : Type 0 where
+  pub answer : (g : Guests (List ℕ)) (d : Ledger) (y : Item) → Holds (joined g e l) s d → In y (items d.levels) → y.slot ≡ x → f.0 ≡ raised cap y.frequency
+  pub holds : (g : Guests (List ℕ)) (d : Ledger) (y : Item) → Holds (joined g e l) s d → In y (items d.levels) → y.slot ≡ x → cap ≤ CEILING →
+      Holds (joined g e' l') s' (move y (raised cap y.frequency) d)
 
 -- the item in slot x starts again
-pub record Restarts (f e p n b sp : List ℕ) (s : State) (x : ℕ) (f' e' p' n' b' sp' : List ℕ) (s' : State) : Type 0 where
-  pub holds : (k a i : List ℕ) (l : Ledger) (y : Item) → Holds (tables k f e p n a i b sp) s l → In y (items l.levels) → y.slot ≡ x →
-      Holds (tables k f' e' p' n' a i b' sp') s' (restart y l)
+pub record Restarts (e : List ℕ) (l : Tabs) (s : State) (x : ℕ) (e' : List ℕ) (l' : Tabs) (s' : State) : Type 0 where
+  pub holds : (g : Guests (List ℕ)) (d : Ledger) (y : Item) → Holds (joined g e l) s d → In y (items d.levels) → y.slot ≡ x →
+      Holds (joined g e' l') s' (restart y d)
 
 -- the item in slot x is let go
 pub record LetsGo (t : Tables) (s : State) (x : ℕ) (t' : Tables) (s' : State) : Type 0 where
@@ -97,10 +99,10 @@ pub record Wiped (t t' : List ℕ) : Type 0 where
   pub zero : (i : ℕ) → cells t' i ≡ 0
 
 -- eight tables have the lengths that a capacity calls for; the bucket table is not lent
-pub record Fitting (k f e p n a i sp : List ℕ) (c : ℕ) : Type 0 where
+pub record Fitting (g : Guests (List ℕ)) (e f p n sp : List ℕ) (c : ℕ) : Type 0 where
   pub limit : c ≤ LIMIT
-  pub sized : (b : List ℕ) → length b ≡ c * WORDS → Sized (tables k f e p n a i b sp) c
+  pub sized : (b : List ℕ) → length b ≡ c * WORDS → Sized (joined g e (tabs f p n b sp)) c
 
 -- the tables hold a new ledger, whatever the bucket table has
-abbrev pub Cleared : (k f e p n a i sp : List ℕ) → ℕ → State → Type 0
-Cleared k f e p n a i sp c s = (b : List ℕ) → length b ≡ c * WORDS → Holds (tables k f e p n a i b sp) s (new c)
+abbrev pub Cleared : Guests (List ℕ) → (epochs freqs prevs nexts spares : List ℕ) → ℕ → State → Type 0
+Cleared g e f p n sp c s = (b : List ℕ) → length b ≡ c * WORDS → Holds (joined g e (tabs f p n b sp)) s (new c)

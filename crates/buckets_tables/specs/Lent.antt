@@ -18,14 +18,3 @@ buckets = record {
   Holds = Holds;
   calls = calls;
 }
-
--- the state beside a refusal to make tables: every number in it is 0
-abbrev pub nothing : State
-nothing = record {
-  capacity = 0;
-  count = 0;
-  lowest = 0;
-  epoch = 0;
-  free = record { first = 0; last = 0 };
-  buckets = record { bottom = 0; top = 0; spare = record { first = 0; last = 0 } };
-}

@@ -1,15 +1,60 @@
-// What a caller lends for the frequency buckets: nine tables, and a small state that is handed in and handed back.
+// What a caller lends for the frequency buckets: nine tables, which are those of the guests, the epochs and those of the levels; and a
+// small state beside them.
 #![tactic(auto)]
 
-ghost use Rattle.std.specs.Prelude.{◌≡◌};
+ghost use Rattle.std.specs.Prelude.{◌≡◌, List, ℕ};
+ghost use Rattle.buckets_tables.specs.declared.Guests.{Guests};
 ghost use Rattle.buckets_tables.specs.Calls.{recounted, dated, next_epoch};
-ghost use Rattle.buckets_tables.specs.Lent.{nothing};
+ghost use Rattle.buckets_tables.specs.Slices.{lent_guests, shown_guests};
 
 use bucket_table::Buckets;
-use numbers::{Frequency, Slot};
+use numbers::Frequency;
 use slot_arena::Order;
 
 pub mod sound;
+
+// The tables that say who is bound where, lent for writing or for reading: each slot's key, the free slots in their order, and the way
+// from a key to its slot.
+#[derive(Drop)]
+pub struct Guests<T> {
+    pub keys: T,
+    pub arena: T,
+    pub index: T,
+}
+
+// Tables of guests that can be read, however they are lent.
+pub trait GuestTables {
+    // What they have.
+    ghost lists: { Self → Guests (List ℕ) };
+
+    // The same tables for reading.
+    fn shown(&self) -> Guests<&[u64]>
+        ensures { shown_guests result ≡ lists self.now };
+}
+
+impl GuestTables for Guests<&mut [u64]> {
+    ghost lists = { lent_guests };
+
+    fn shown(&self) -> Guests<&[u64]> {
+        Guests {
+            keys: &self.keys[..],
+            arena: &self.arena[..],
+            index: &self.index[..],
+        }
+    }
+}
+
+impl GuestTables for Guests<&[u64]> {
+    ghost lists = { shown_guests };
+
+    fn shown(&self) -> Guests<&[u64]> {
+        Guests {
+            keys: self.keys,
+            arena: self.arena,
+            index: self.index,
+        }
+    }
+}
 
 // The capacity, how many keys are bound, the lowest frequency in use (0 where no key is bound), the epoch, where the free order
 // begins and ends, and where the bucket records do.
@@ -23,72 +68,19 @@ pub struct State {
     pub buckets: Buckets,
 }
 
-// The slot that a key was bound in, and the state after it.
-#[derive(Clone, Copy)]
-pub struct Placed {
-    pub slot: Slot,
-    pub state: State,
-}
-
-// The frequency of a key that was hit, and the state after it.
-#[derive(Clone, Copy)]
-pub struct Hit {
-    pub frequency: Frequency,
-    pub state: State,
-}
-
 impl State {
-    // No tables: what stands beside a refusal to make some. Every number in it is 0.
-    pub fn nothing() -> State
-        ensures { result ≡ nothing }
-    {
-        let order = Order { first: 0, last: 0 };
-        let spare = Order { first: 0, last: 0 };
-        let buckets = Buckets {
-            bottom: 0,
-            top: 0,
-            spare: spare,
-        };
-        State {
-            capacity: 0,
-            count: 0,
-            lowest: 0,
-            epoch: 0,
-            free: order,
-            buckets: buckets,
-        }
-    }
-
-    // The state after a key was bound, moved or let go.
-    pub fn recounted(
-        mut self,
-        count: u64,
-        lowest: Frequency,
-        free: Order,
-        buckets: Buckets,
-    ) -> State
-        ensures { result ≡ recounted self count lowest.0 free buckets }
+    // Another count of keys, and another lowest frequency.
+    pub fn recount(&mut self, count: u64, lowest: Frequency)
+        ensures { self.new ≡ recounted self.old count lowest.0 self.old.free self.old.buckets }
     {
         self.count = count;
         self.lowest = lowest.0;
-        self.free = free;
-        self.buckets = buckets;
-        self
-    }
-
-    // The state at another epoch.
-    pub fn dated(mut self, epoch: u64) -> State
-        ensures { result ≡ dated self epoch }
-    {
-        self.epoch = epoch;
-        self
     }
 
     // The state at the next epoch; 0 comes after the largest.
-    pub fn advanced(mut self) -> State
-        ensures { result ≡ dated self (next_epoch self.epoch) }
+    pub fn advance(&mut self)
+        ensures { self.new ≡ dated self.old (next_epoch self.old.epoch) }
     {
-        self.epoch = std::num::wrapping_add_u64(self.epoch, 1);
-        self
+        self.epoch = self.epoch.wrapping_add(1);
     }
 }

@@ -9,7 +9,9 @@ use native.Mathlib.Omega.{arith}
 use lib.ListN.{length}
 use lib.Dec.{eqb}
 use Rattle.numbers.specs.Marks.{NONE}
-use Rattle.numbers.specs.declared.Answer.TheVariants.{Absent}
+use Rattle.std.proofs.Common.{Option, Some, None, Result, Ok, Err}
+use Rattle.numbers.specs.declared.Refusal.{Refusal}
+use Rattle.numbers.specs.declared.Refusal.TheVariants.{Absent}
 use Rattle.numbers.specs.declared.Slot.{Slot}
 use Rattle.lists.specs.Lists.{All, In, one}
 use Rattle.lists.proofs.Tests.{if_lt, if_same, if_other, if_less, if_not_less, one_same}
@@ -22,7 +24,7 @@ use Rattle.ledger.proofs.Walked.{list_of_frequency, list_of_in, step_at, step_fr
 use Rattle.links.specs.Chain.{cells}
 use Rattle.levels.specs.Levels as levels
 use Rattle.levels.specs.Levels.{slot_list}
-use Rattle.levels.specs.Calls.{Heads}
+use Rattle.levels.specs.Calls.{Names, Heads}
 use Rattle.levels.proofs.Lines.{nowhere_members}
 use Rattle.levels.proofs.Answers.{head_slots}
 use Rattle.levels.proofs.One.{held_one, held_below, held_rising, held_next, free_nowhere, taken_bound}
@@ -31,19 +33,17 @@ use Rattle.buckets_tables.specs.Tables.{Tables, tables, leveled}
 use Rattle.buckets_tables.specs.Holds.{entry_at, entries_at, BoundSlot, Holds}
 use Rattle.buckets_tables.proofs.Entries.{slotted_members, list_slots}
 use Rattle.buckets_tables.proofs.Found.{Stands, stands}
-use Rattle.buckets_walk.specs.declared.After.{After}
-use Rattle.buckets_walk.specs.declared.After.TheVariants as link
 use Rattle.buckets_walk.specs.Walks.{slot_of, link_at, Leads, Startable, OfStart, Walkable, OfStep}
 use Rattle.buckets_walk.proofs.Lists.{slots_all, slots_there, tag_there, start_in, step_in}
 
 -- where a link leads
-abbrev led : ℕ → After
-led x = cond (eqb x NONE) link.NoMore (link.At (record { 0 = x }))
+abbrev led : ℕ → Result (Option Slot) Refusal
+led x = cond (eqb x NONE) (Ok None) (Ok (Some (record { 0 = x })))
 
 -- to the first of the slots that are left
 lands : (k e : List ℕ) (f : ℕ) (ys : List ℕ) → All (λ y. y ≢ NONE) ys → led (levels.first ys) ≡ slot_of (head (tag f (entries_at k e ys) []))
-lands k e f [] a = if_same NONE NONE link.NoMore (link.At (record { 0 = NONE })) refl
-lands k e f (y ∷ ys) a = if_other y NONE link.NoMore (link.At (record { 0 = y })) a.0
+lands k e f [] a = if_same NONE NONE (Ok None) (Ok (Some (record { 0 = NONE }))) refl
+lands k e f (y ∷ ys) a = if_other y NONE (Ok None) (Ok (Some (record { 0 = y }))) a.0
 
 module _ (t : Tables) (s : State) (l : Ledger) (h : Holds t s l) where
   small : All (λ y. y ≢ NONE) (levels.members h.slots)
@@ -90,87 +90,87 @@ module _ (t : Tables) (s : State) (l : Ledger) (h : Holds t s l) where
 -- `next`
 
 module _ (n : List ℕ) (x : ℕ) where
-  pub next_outside : length n ≤ x → Leads n x link.Absent
+  pub next_outside : length n ≤ x → Leads n x (Err Absent)
   next_outside b = record {
-    cell = sym (if_not_less x (length n) _ link.Absent b);
+    cell = sym (if_not_less x (length n) _ (Err Absent) b);
     steps = λ k f e p a i bk sp s l h. let z = h.sized.nexts_size in ap slot_of (sym (step_outside l h.formed x (omega arith)));
   }
 
-  pub next_free : cells n x ≡ x → Leads n x link.Absent
+  pub next_free : cells n x ≡ x → Leads n x (Err Absent)
   next_free q = record {
-    cell = sym (if_lt (λ (r : After). r ≡ link.Absent) x (length n) (λ b. if_same (cells n x) x link.Absent _ q) (λ b. refl));
+    cell = sym (if_lt (λ (r : Result (Option Slot) Refusal). r ≡ (Err Absent)) x (length n) (λ b. if_same (cells n x) x (Err Absent) _ q) (λ b. refl));
     steps = λ k f e p a i bk sp s l h. ap slot_of (sym (step_away (tables k f e p n a i bk sp) s l h x q));
   }
 
   module _ (b : x < length n) (d : cells n x ≢ x) where
     -- what is said of a slot in range that is not linked to itself
-    cell_is : link_at n x ≡ cond (eqb (cells n x) NONE) link.NoMore (link.At (record { 0 = cells n x }))
-    cell_is = if_less x (length n) _ link.Absent b ∙ if_other (cells n x) x link.Absent _ d
+    cell_is : link_at n x ≡ cond (eqb (cells n x) NONE) (Ok None) (Ok (Some (record { 0 = cells n x })))
+    cell_is = if_less x (length n) _ (Err Absent) b ∙ if_other (cells n x) x (Err Absent) _ d
 
-    led_by : (r : After) → r ≡ cond (eqb (cells n x) NONE) link.NoMore (link.At (record { 0 = cells n x })) → Leads n x r
+    led_by : (r : Result (Option Slot) Refusal) → r ≡ cond (eqb (cells n x) NONE) (Ok None) (Ok (Some (record { 0 = cells n x }))) → Leads n x r
     led_by r q = record {
       cell = q ∙ sym cell_is;
       steps = λ k f e p a i bk sp s l h. q ∙ step_led (tables k f e p n a i bk sp) s l h x b d;
     }
 
-    pub next_none : (y : ℕ) → y ≡ cells n x → y ≡ NONE → Leads n x link.NoMore
-    next_none y e q = led_by link.NoMore (sym (if_same (cells n x) NONE link.NoMore (link.At (record { 0 = cells n x })) (sym e ∙ q)))
+    pub next_none : (y : ℕ) → y ≡ cells n x → y ≡ NONE → Leads n x (Ok None)
+    next_none y e q = led_by (Ok None) (sym (if_same (cells n x) NONE (Ok None) (Ok (Some (record { 0 = cells n x }))) (sym e ∙ q)))
 
-    pub next_at : (y : ℕ) → y ≡ cells n x → y ≢ NONE → Leads n x (link.At (record { 0 = y }))
-    next_at y e q = subst (λ (z : ℕ). Leads n x (link.At (record { 0 = z }))) (sym e) (led_by (link.At (record { 0 = cells n x })) (sym (if_other (cells n x) NONE link.NoMore (link.At (record { 0 = cells n x })) (λ w. q (e ∙ w)))))
+    pub next_at : (y : ℕ) → y ≡ cells n x → y ≢ NONE → Leads n x (Ok (Some (record { 0 = y })))
+    next_at y e q = subst (λ (z : ℕ). Leads n x (Ok (Some (record { 0 = z })))) (sym e) (led_by (Ok (Some (record { 0 = cells n x }))) (sym (if_other (cells n x) NONE (Ok None) (Ok (Some (record { 0 = cells n x }))) (λ w. q (e ∙ w)))))
 
 -- the links leave no choice where a step leads
-pub leads_agree : (n : List ℕ) (x : ℕ) (r q : After) → Leads n x r → Leads n x q → r ≡ q
+pub leads_agree : (n : List ℕ) (x : ℕ) (r q : Result (Option Slot) Refusal) → Leads n x r → Leads n x q → r ≡ q
 leads_agree n x r q a b = a.cell ∙ sym b.cell
 
 -- What is told
 
 -- of a walk past the last slot, and of one that stands nowhere
-past : (st : Step) → link.NoMore ≡ slot_of st → done [] ≡ step_reply st
+past : (st : Step) → Ok None ≡ slot_of st → done [] ≡ step_reply st
 past (here z) q = let c : ◌≡◌ {A = ℕ} 0 1 = cc in absurd (omega arith)
 past no_more q = refl
 past absent q = let c : ◌≡◌ {A = ℕ} 0 1 = cc in absurd (omega arith)
 
-nowhere : (st : Step) → link.Absent ≡ slot_of st → refused Absent ≡ step_reply st
-nowhere (here z) q = let c : ◌≡◌ {A = ℕ} 0 1 = cc in absurd (omega arith)
-nowhere no_more q = let c : ◌≡◌ {A = ℕ} 0 1 = cc in absurd (omega arith)
-nowhere absent q = refl
+nowhere : (why : Refusal) (st : Step) → Err why ≡ slot_of st → refused why ≡ step_reply st
+nowhere why (here z) q = let c : ◌≡◌ {A = ℕ} 0 1 = cc in absurd (omega arith)
+nowhere why no_more q = let c : ◌≡◌ {A = ℕ} 0 1 = cc in absurd (omega arith)
+nowhere why absent q = cc
 
 -- of one that stands at a slot
-abbrev number : After → ℕ
-number (link.At y) = y.0
-number link.NoMore = NONE
-number link.Absent = NONE
+abbrev number : Result (Option Slot) Refusal → ℕ
+number (Ok (Some y)) = y.0
+number (Ok None) = NONE
+number (Err why) = NONE
 
-at_here : (y : Slot) (st : Step) → link.At y ≡ slot_of st → (z : Item) × (st ≡ here z) × (z.slot ≡ y.0)
+at_here : (y : Slot) (st : Step) → Ok (Some y) ≡ slot_of st → (z : Item) × (st ≡ here z) × (z.slot ≡ y.0)
 at_here y (here z) q = (z, refl, ap number (sym q))
 at_here y no_more q = let c : ◌≡◌ {A = ℕ} 0 1 = cc in absurd (omega arith)
 at_here y absent q = let c : ◌≡◌ {A = ℕ} 0 1 = cc in absurd (omega arith)
 
 module _ (t : Tables) (s : State) (l : Ledger) (h : Holds t s l) where
   -- the ledger shows the item in that slot
-  seen : (st : Step) → ((z : Item) → st ≡ here z → In z (items l.levels)) → (y : Slot) → link.At y ≡ slot_of st → (z : Item) × (st ≡ here z) × Stands t s l h z y.0
+  seen : (st : Step) → ((z : Item) → st ≡ here z → In z (items l.levels)) → (y : Slot) → Ok (Some y) ≡ slot_of st → (z : Item) × (st ≡ here z) × Stands t s l h z y.0
   seen st i y q = let w = at_here y st q in (w.0, w.1, subst (Stands t s l h w.0) w.2 (stands t s l h w.0 (i w.0 w.1)))
 
 -- `walk_step`
 
 -- links lead only to slots that are bound, in whatever ledger they are the links of
-pub leads_bound : (n : List ℕ) (x : ℕ) (y : Slot) → Leads n x (link.At y) → (k f e p a i b sp : List ℕ) (s : State) (l : Ledger) → Holds (tables k f e p n a i b sp) s l → BoundSlot l y.0
+pub leads_bound : (n : List ℕ) (x : ℕ) (y : Slot) → Leads n x (Ok (Some y)) → (k f e p a i b sp : List ℕ) (s : State) (l : Ledger) → Holds (tables k f e p n a i b sp) s l → BoundSlot l y.0
 leads_bound n x y q k f e p a i b sp s l h =
     let w = seen (tables k f e p n a i b sp) s l h (step x l) (step_in x l) y (q.steps k f e p a i b sp s l h) in
     let c = in_sum (λ (z : Item). one z.slot y.0) (items l.levels) w.0 w.2.inside in
     omega (arith, one_same w.0.slot y.0 w.2.slot)
 
 module _ (k f e n : List ℕ) (x : ℕ) where
-  pub step_past : Leads n x link.NoMore → OfStep k f e n (asks (WalkStep x)) (done [])
+  pub step_past : Leads n x (Ok None) → OfStep k f e n (asks (WalkStep x)) (done [])
   unfolding asks
   step_past q p a i b sp s l h = past (step x l) (q.steps k f e p a i b sp s l h)
 
-  pub step_nowhere : Leads n x link.Absent → OfStep k f e n (asks (WalkStep x)) (refused Absent)
+  pub step_nowhere : (why : Refusal) → Leads n x (Err why) → OfStep k f e n (asks (WalkStep x)) (refused why)
   unfolding asks
-  step_nowhere q p a i b sp s l h = nowhere (step x l) (q.steps k f e p a i b sp s l h)
+  step_nowhere why q p a i b sp s l h = nowhere why (step x l) (q.steps k f e p a i b sp s l h)
 
-  module _ (y : Slot) (q : Leads n x (link.At y)) where
+  module _ (y : Slot) (q : Leads n x (Ok (Some y))) where
     pub step_shown : OfStep k f e n (asks (WalkStep x)) (done (y.0 ∷ cells k y.0 ∷ cells f y.0 ∷ cells e y.0 ∷ []))
     unfolding asks
     step_shown p a i b sp s l h =
@@ -189,29 +189,35 @@ module _ (k f e n : List ℕ) (x : ℕ) where
 
 -- `walk_start`
 
-module _ (k e b : List ℕ) (s : State) (g x : ℕ) (heads : Heads b s.buckets g x) where
-  led_start : (f p n a i sp : List ℕ) (l : Ledger) → Holds (tables k f e p n a i b sp) s l → led x ≡ slot_of (start g l)
-  led_start f p n a i sp l h = ap led (heads.answer f p n sp _ h.lists) ∙ start_led (tables k f e p n a i b sp) s l h g
+-- the slot that is named is where a link to it leads
+named_led : (r : Option Slot) (y : ℕ) → Names r y → Ok r ≡ led y
+named_led (Some x) y named = (λ j. Ok (Some (record { 0 = named.0 j }))) ∙ sym (if_other y NONE (Ok None) (Ok (Some (record { 0 = y }))) named.1)
+named_led None y named = sym (if_same y NONE (Ok None) (Ok (Some (record { 0 = y }))) named)
 
-  pub start_past : x ≡ NONE → OfStart k e b s (asks (WalkStart g)) (done [])
+module _ (k e b : List ℕ) (s : State) (g : ℕ) where
+  led_start : (r : Option Slot) → Heads b s.buckets g r → (f p n a i sp : List ℕ) (l : Ledger) → Holds (tables k f e p n a i b sp) s l → Ok r ≡ slot_of (start g l)
+  led_start r heads f p n a i sp l h =
+      named_led r _ (heads.answer f p n sp _ h.lists) ∙ start_led (tables k f e p n a i b sp) s l h g
+
+  pub start_past : Heads b s.buckets g None → OfStart k e b s (asks (WalkStart g)) (done [])
   unfolding asks
-  start_past q f p n a i sp l h = past (start g l) (sym (if_same x NONE link.NoMore (link.At (record { 0 = x })) q) ∙ led_start f p n a i sp l h)
+  start_past heads f p n a i sp l h = past (start g l) (led_start None heads f p n a i sp l h)
 
-  module _ (d : x ≢ NONE) where
+  module _ (x : Slot) (heads : Heads b s.buckets g (Some x)) where
     at_start : (f p n a i sp : List ℕ) (l : Ledger) (h : Holds (tables k f e p n a i b sp) s l) →
-        (z : Item) × (start g l ≡ here z) × Stands (tables k f e p n a i b sp) s l h z x
+        (z : Item) × (start g l ≡ here z) × Stands (tables k f e p n a i b sp) s l h z x.0
     at_start f p n a i sp l h =
-        seen (tables k f e p n a i b sp) s l h (start g l) (λ z q. list_of_in g l.levels z (start_in g l z q)) (record { 0 = x })
-        (sym (if_other x NONE link.NoMore (link.At (record { 0 = x })) d) ∙ led_start f p n a i sp l h)
+        seen (tables k f e p n a i b sp) s l h (start g l) (λ z q. list_of_in g l.levels z (start_in g l z q)) x
+        (led_start (Some x) heads f p n a i sp l h)
 
-    pub start_shown : OfStart k e b s (asks (WalkStart g)) (done (x ∷ cells k x ∷ g ∷ cells e x ∷ []))
+    pub start_shown : OfStart k e b s (asks (WalkStart g)) (done (x.0 ∷ cells k x.0 ∷ g ∷ cells e x.0 ∷ []))
     unfolding asks
     start_shown f p n a i sp l h =
         let w = at_start f p n a i sp l h in
         let own : w.0.frequency ≡ g = all_in (λ (z : Item). z.frequency ≡ g) (list_of g l.levels) w.0 (list_of_frequency g l.levels) (start_in g l w.0 w.1) in
         (λ j. done (sym w.2.slot j ∷ w.2.key j ∷ sym own j ∷ w.2.epoch j ∷ [])) ∙ ap step_reply (sym w.1)
 
-    pub start_below : Startable k e b s → (x < 4096) × (x < length k) × (x < length e)
+    pub start_below : Startable k e b s → (x.0 < 4096) × (x.0 < length k) × (x.0 < length e)
     start_below (f, p, n, a, i, sp, (l, h)) =
         let below = (at_start f p n a i sp l h).2.below in
         let limit = h.limit in

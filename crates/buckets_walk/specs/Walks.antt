@@ -1,7 +1,10 @@
 -- What is told by walks that are lent only the tables that they read: the ledger's answer, for every table and state that may stand
 -- beside what is lent.
-use Rattle.std.specs.Prelude.{◌≡◌, cond, List, ℕ, eqb, ltb, length}
+use Rattle.std.specs.Prelude.{Result, Ok, Err, Option, Some, None, ◌≡◌, cond, List, ℕ, eqb, ltb, length}
 use Rattle.numbers.specs.Marks.{NONE}
+use Rattle.numbers.specs.declared.Refusal.{Refusal}
+use Rattle.numbers.specs.declared.Refusal.TheVariants.{Absent}
+use Rattle.numbers.specs.declared.Slot.{Slot}
 use Rattle.ledger.specs.Ledger.{Ledger}
 use Rattle.ledger.specs.Buckets.{Reply, Outcome}
 use Rattle.ledger.specs.Walk as ledger
@@ -12,25 +15,23 @@ use Rattle.buckets_tables.specs.declared.State.{State}
 use Rattle.buckets_tables.specs.Tables.{tables}
 use Rattle.buckets_tables.specs.Holds.{Holds}
 use Rattle.buckets_tables.specs.Lent.{buckets}
-use Rattle.buckets_walk.specs.declared.After.{After}
-use Rattle.buckets_walk.specs.declared.After.TheVariants as link
 
 -- the slot that the ledger's step stands at
-abbrev pub slot_of : ledger.Step → After
-slot_of (ledger.here x) = link.At (record { 0 = x.slot })
-slot_of ledger.no_more = link.NoMore
-slot_of ledger.absent = link.Absent
+abbrev pub slot_of : ledger.Step → Result (Option Slot) Refusal
+slot_of (ledger.here x) = Ok (Some (record { 0 = x.slot }))
+slot_of ledger.no_more = Ok None
+slot_of ledger.absent = Err Absent
 
 -- what the links say of slot x: nothing out of range, and nothing of a slot that is linked to itself; else the slot after it, if there is one
-abbrev pub link_at : List ℕ → ℕ → After
+abbrev pub link_at : List ℕ → ℕ → Result (Option Slot) Refusal
 link_at n x =
     cond (ltb x (length n))
-    (cond (eqb (cells n x) x) link.Absent (cond (eqb (cells n x) NONE) link.NoMore (link.At (record { 0 = cells n x }))))
-    link.Absent
+    (cond (eqb (cells n x) x) (Err Absent) (cond (eqb (cells n x) NONE) (Ok None) (Ok (Some (record { 0 = cells n x })))))
+    (Err Absent)
 
 -- The links are lent: a step from slot x leads where they say, and that is where the ledger's step leads, whatever ledger it is that they are
 -- the links of.
-pub record Leads (n : List ℕ) (x : ℕ) (r : After) : Type 0 where
+pub record Leads (n : List ℕ) (x : ℕ) (r : Result (Option Slot) Refusal) : Type 0 where
   pub cell : r ≡ link_at n x
   pub steps : (k f e p a i b sp : List ℕ) (s : State) (l : Ledger) → Holds (tables k f e p n a i b sp) s l → r ≡ slot_of (step x l)
 

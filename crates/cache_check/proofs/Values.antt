@@ -8,14 +8,15 @@ use Prim.Native.Nat.{ℕ, ◌≤◌}
 use native.Mathlib.Omega.{arith}
 use lib.ListN.{length, get_or}
 use Rattle.numbers.specs.Marks.{LIMIT}
-use Rattle.numbers.specs.declared.Answer.{Answer}
-use Rattle.numbers.specs.declared.Answer.TheVariants.{Done, Corrupt, Short, Capacity}
+use Rattle.numbers.specs.declared.Refusal.{Refusal}
+use Rattle.numbers.specs.declared.Refusal.TheVariants.{Corrupt, Short, Capacity}
+use Rattle.std.proofs.Common.{Result, Ok, Err}
 use Rattle.lists.specs.Lists.{times}
 use Rattle.lists.proofs.Tests.{by_lt, if_less, if_not_less, said_no}
 use Rattle.ledger.specs.Ledger.{Ledger}
 use Rattle.ledger.specs.Cache.{Cache}
-use Rattle.promise.specs.Promise.{Reading, over, short, corrupt, ledger, Reads, why_of, Checks}
-use Rattle.promise.specs.Making.{Sizing, too_large, too_short, fitting, Sizes, size_answer, Measures}
+use Rattle.promise.specs.Promise.{Reading, over, short, corrupt, ledger, Reads, checked_of, Checks, Sound}
+use Rattle.promise.specs.Making.{Sizing, too_large, too_short, fitting, Sizes, measured_of, Measures}
 use Rattle.promise.proofs.Promises.{sound_done}
 use Rattle.buckets_tables.specs.declared.State.{State}
 use Rattle.buckets_tables.specs.Tables.{Tables, Sized}
@@ -28,23 +29,23 @@ use Rattle.cache_check.specs.Check.{short_of, AllowedBelow}
 
 -- A table of values of another length
 
-module _ (t : Tables) (vs : List ℕ) (a : Answer) where
-  pub other_measures : (c : ℕ) → length vs ≢ c → a ≡ short_of c → Measures cache (with_values t vs) c a
+module _ (t : Tables) (vs : List ℕ) (a : Refusal) where
+  pub other_measures : (c : ℕ) → length vs ≢ c → a ≡ short_of c → Measures cache (with_values t vs) c (Err a)
   other_measures c n e =
-      by_lt LIMIT c (λ l. (too_large, l, e ∙ if_less LIMIT c Capacity Short l))
-      (λ l. (too_short, (l, λ h. n h.1), e ∙ if_not_less LIMIT c Capacity Short l))
+      by_lt LIMIT c (λ l. (too_large, l, ap Err (e ∙ if_less LIMIT c Capacity Short l)))
+      (λ l. (too_short, (l, λ h. n h.1), ap Err (e ∙ if_not_less LIMIT c Capacity Short l)))
 
-  pub other_checks : (s : State) → length vs ≢ s.capacity → a ≡ short_of s.capacity → Checks cache (with_values t vs) s a
+  pub other_checks : (s : State) → length vs ≢ s.capacity → a ≡ short_of s.capacity → Checks cache (with_values t vs) s (Err a)
   other_checks s n e =
-      by_lt LIMIT s.capacity (λ l. (over, l, e ∙ if_less LIMIT s.capacity Capacity Short l))
-      (λ l. (short, (l, λ h. n h.1), e ∙ if_not_less LIMIT s.capacity Capacity Short l))
+      by_lt LIMIT s.capacity (λ l. (over, l, ap Err (e ∙ if_less LIMIT s.capacity Capacity Short l)))
+      (λ l. (short, (l, λ h. n h.1), ap Err (e ∙ if_not_less LIMIT s.capacity Capacity Short l)))
 
 -- One of the right length
 
-pub same_measures : (t : Tables) (vs : List ℕ) (c : ℕ) (a : Answer) → length vs ≡ c → Measures buckets t c a → Measures cache (with_values t vs) c a
+pub same_measures : (t : Tables) (vs : List ℕ) (c : ℕ) (a : Result Unit Refusal) → length vs ≡ c → Measures buckets t c a → Measures cache (with_values t vs) c a
 same_measures t vs c a len m = go m.0 m.1 m.2
   where
-    go : (v : Sizing buckets) → Sizes buckets t c v → a ≡ size_answer buckets v → Measures cache (with_values t vs) c a
+    go : (v : Sizing buckets) → Sizes buckets t c v → a ≡ measured_of buckets v → Measures cache (with_values t vs) c a
     go too_large w q = (too_large, w, q)
     go too_short w q = (too_short, (w.0, λ h. w.1 h.0), q)
     go fitting w q = (fitting, (w.0, (w.1, len)), q)
@@ -71,34 +72,36 @@ module _ (t : Tables) (s : State) (l : Ledger) (h : Holds t s l) (vs : List ℕ)
     formed = record { table = h.formed; fits = len ∙ h.capacity; zeros = allowed_zeros all };
   }
 
-module _ (t : Tables) (vs : List ℕ) (s : State) (len : length vs ≡ s.capacity) (a : Answer) (done : Bool) (c : Checks buckets t s a) (told : (done ≡ true) ↔ (a ≡ Done)) where
+module _ (t : Tables) (vs : List ℕ) (s : State) (len : length vs ≡ s.capacity) (a : Result Unit Refusal) (c : Checks buckets t s a) where
   -- the buckets' refusal
-  pub below_refuses : done ≡ false → Checks cache (with_values t vs) s a
-  below_refuses e = go c.0 c.1 c.2
+  pub below_refuses : (why : Refusal) → a ≡ Err why → (r : Result Unit Refusal) → r ≡ Err why → Checks cache (with_values t vs) s r
+  below_refuses why e r told = go c.0 c.1 (told ∙ sym e ∙ c.2)
     where
-      go : (v : Reading buckets) → Reads buckets t s v → a ≡ why_of buckets v → Checks cache (with_values t vs) s a
+      go : (v : Reading buckets) → Reads buckets t s v → r ≡ checked_of buckets v → Checks cache (with_values t vs) s r
       go over w q = (over, w, q)
       go short w q = (short, (w.0, λ h. w.1 h.0), q)
       go corrupt w q = (corrupt, (w.0, (w.1, len), λ d h. w.2 d.table h.table), q)
-      go (ledger l) w q = absurd (said_no _ told e q)
+      go (ledger l) w q = let z : ◌≡◌ {A = ℕ} 0 1 = cc in absurd (omega arith)
 
-  -- their DONE: the values decide
-  module _ (yes : done ≡ true) (ok : Bool) (looked : (ok ≡ true) ↔ AllowedBelow t.arena vs (length vs)) where
-    fits : (l : Ledger) → Holds t s l → (s.capacity ≤ LIMIT) × (Sized t s.capacity × (length vs ≡ s.capacity))
-    fits l h = let lim = h.limit in let e = h.capacity in (omega arith, (subst (Sized t) (sym e) h.sized, len))
+  -- where they go on, the values decide
+  module _ (u : Unit) (yes : a ≡ Ok u) (ok : Bool) (looked : (ok ≡ true) ↔ AllowedBelow t.arena vs (length vs)) where
+    held : Sound buckets t s
+    held = sound_done buckets t s a c u yes
 
-    pub values_refuse : ok ≡ false → (b : Answer) → b ≡ Corrupt → Checks cache (with_values t vs) s b
-    values_refuse off b q =
-        let w = sound_done buckets t s a done c told yes in
-        let f = fits w.0 w.1 in
-        let none-held : (d : Cache) → CacheHolds (with_values t vs) s d → ⊥ =
-        (λ d h.
-        said_no _ looked off
-        (zeros_allowed t s d.table h.table vs len (λ x one. ap (λ (us : List ℕ). get_or us x 0) h.values ∙ h.formed.zeros x one))) in
-        (corrupt, (f.0, f.1, none-held), q)
+    fits : (s.capacity ≤ LIMIT) × (Sized t s.capacity × (length vs ≡ s.capacity))
+    fits =
+        let lim = held.1.limit in
+        let e = held.1.capacity in
+        (omega arith, (subst (Sized t) (sym e) held.1.sized, len))
 
-    pub values_hold : ok ≡ true → (b : Answer) → b ≡ Done → Checks cache (with_values t vs) s b
-    values_hold all b q =
-        let w = sound_done buckets t s a done c told yes in
-        let f = fits w.0 w.1 in
-        (ledger (record { table = w.0; values = vs }), (f.0, f.1, allowed_holds t s w.0 w.1 vs len (looked.0 all)), q)
+    pub values_refuse : ok ≡ false → Checks cache (with_values t vs) s (Err Corrupt)
+    values_refuse off = (corrupt, (fits.0, fits.1, none-held), refl)
+      where
+        none-held : (d : Cache) → CacheHolds (with_values t vs) s d → ⊥
+        none-held d h =
+            said_no _ looked off
+            (zeros_allowed t s d.table h.table vs len (λ x one. ap (λ (us : List ℕ). get_or us x 0) h.values ∙ h.formed.zeros x one))
+
+    pub values_hold : ok ≡ true → Checks cache (with_values t vs) s (Ok tt)
+    values_hold all =
+        (ledger (record { table = held.0; values = vs }), (fits.0, fits.1, allowed_holds t s held.0 held.1 vs len (looked.0 all)), refl)

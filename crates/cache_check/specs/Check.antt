@@ -1,12 +1,12 @@
 -- What the steps of the check look at beside the tables of the buckets: the limit, and the values of the slots that are not in use.
 use Rattle.std.specs.Prelude.{◌≡◌, cond, List, ℕ, ◌<◌, ltb, get_or}
 use Rattle.numbers.specs.Marks.{LIMIT}
-use Rattle.numbers.specs.declared.Answer.{Answer}
-use Rattle.numbers.specs.declared.Answer.TheVariants.{Short, Capacity}
+use Rattle.numbers.specs.declared.Refusal.{Refusal}
+use Rattle.numbers.specs.declared.Refusal.TheVariants.{Short, Capacity}
 use Rattle.slot_arena.specs.Arena.{InUse}
 
 -- document 01's answer where lengths do not fit: CAPACITY comes before SHORT
-abbrev pub short_of : ℕ → Answer
+abbrev pub short_of : ℕ → Refusal
 short_of c = cond (ltb LIMIT c) Capacity Short
 
 -- slot x may have the value v: any while it is in use, else 0

@@ -4,7 +4,7 @@ use mathlib.Core.Path.{◌≡◌, refl, sym, ◌∙◌, subst}
 use mathlib.Core.List.{List}
 use Prim.Native.Nat.{ℕ}
 use lib.ListN.{get_or, set}
-use Rattle.numbers.specs.declared.Answer.{Answer}
+use Rattle.numbers.specs.declared.Refusal.{Refusal}
 use Rattle.lists.specs.Lists.{In}
 use Rattle.ledger.specs.Ledger.{Item, items}
 use Rattle.ledger.specs.Buckets.{Reply, done, refused}
@@ -40,7 +40,7 @@ pub stored_at : (vs : List ℕ) (x v : ℕ) (c : Cache) (y : Item) → vs ≡ c.
 stored_at vs x v c y e q = λ i. set (e i) (sym q i) v
 
 -- a call that refuses whatever the tables hold
-pub cache_refuse : (a : CacheCall) (t : CacheTables) (s : State) (why : Answer) → ((c : Cache) → CacheHolds t s c → event_reply (does a c).0 ≡ refused why) →
+pub cache_refuse : (a : CacheCall) (t : CacheTables) (s : State) (why : Refusal) → ((c : Cache) → CacheHolds t s c → event_reply (does a c).0 ≡ refused why) →
     Does cache (cache_calls a) t s (refused why) t s
 unfolding cache_calls
 cache_refuse a t s why h c w = record {
@@ -68,7 +68,6 @@ pub cache_tell : (a : CacheCall) (t : CacheTables) (s : State) (r : Reply) → (
 unfolding cache_calls
 cache_tell a t s r h = h
 
--- the values after a call, by what was stored in them
-pub cache_stored : (f : Cache → CacheOutcome) (t : CacheTables) (s : State) (r : Reply) (t' : Tables) (us vs' : List ℕ) (s' : State) → vs' ≡ us →
-    Does cache f t s r (with_values t' us) s' → Does cache f t s r (with_values t' vs') s'
-cache_stored f t s r t' us vs' s' e d = subst (λ (ws : List ℕ). Does cache f t s r (with_values t' ws) s') (sym e) d
+-- the same call, told by another reply that is the same
+pub cache_told : (f : Cache → CacheOutcome) (t : CacheTables) (s : State) (r q : Reply) (t' : CacheTables) (s' : State) → r ≡ q → Does cache f t s q t' s' → Does cache f t s r t' s'
+cache_told f t s r q t' s' e d = subst (λ (p : Reply). Does cache f t s p t' s') (sym e) d

@@ -1,14 +1,13 @@
 -- Each call of the cache that finds or misses a key, or takes the least, does what the cache's function does: by where the item
 -- stands, and by what the buckets' steps promise of its slot.
-use mathlib.Core.Path.{◌≡◌, sym, ap, ◌∙◌}
+use mathlib.Core.Path.{◌≡◌, ap}
+use Rattle.std.proofs.Common.{Some, None}
 use mathlib.Core.Option.{Option, none, some}
 use mathlib.Core.List.{List, [], ◌∷◌}
-use mathlib.Core.Logic.{◌≢◌}
 use Prim.Native.Nat.{ℕ}
 use lib.ListN.{get_or, set}
-use Rattle.numbers.specs.Marks.{NONE}
 use Rattle.numbers.specs.Frequency.{CEILING}
-use Rattle.numbers.specs.declared.Answer.TheVariants.{Absent, Empty}
+use Rattle.numbers.specs.declared.Refusal.TheVariants.{Absent, Empty}
 use Rattle.numbers.specs.declared.Slot.{Slot}
 use Rattle.ledger.specs.Ledger.{Ledger, Item, lookup, lowest}
 use Rattle.ledger.specs.Buckets.{done, refused, touch}
@@ -18,10 +17,12 @@ use Rattle.ledger.specs.CacheCalls.{cache_calls}
 use Rattle.promise.specs.Promise.{Does, Tells}
 use Rattle.links.specs.Chain.{cells}
 use Rattle.key_index.specs.Index as index
-use Rattle.key_index.specs.declared.Found.TheVariants.{At, Nothing}
-use Rattle.levels.specs.Levels as levels
+use Rattle.levels.specs.Calls.{Lowest}
+use Rattle.levels.specs.Held.{Tabs}
 use Rattle.buckets_tables.specs.declared.State.{State}
-use Rattle.buckets_tables.specs.Tables.{Tables, tables}
+use Rattle.buckets_tables.specs.declared.Guests.{Guests}
+use Rattle.buckets_tables.specs.Slices.{joined}
+use Rattle.buckets_tables.specs.Tables.{Tables}
 use Rattle.buckets_tables.specs.Holds.{Holds}
 use Rattle.buckets_tables.specs.Calls.{Restarts, LetsGo}
 use Rattle.buckets_tables.proofs.Found.{Stands, found_at, found_nothing, lowest_nothing}
@@ -41,18 +42,20 @@ Missed find t s = (l : Ledger) → Holds t s l → find l ≡ none
 abbrev pub least_item : Ledger → Option Item
 least_item l = lowest l.levels
 
-pub sought_key : (t : Tables) (s : State) (key : ℕ) (x : Slot) → index.Finds t.index t.keys key (At x) → Sought (lookup key) t s x.0
+pub sought_key : (t : Tables) (s : State) (key : ℕ) (x : Slot) → index.Finds t.index t.keys key (Some x) → Sought (lookup key) t s x.0
 sought_key t s key x f l h = let w = found_at t s l h key x f in (w.item_is, w.found, w.there_is)
 
-pub missed_key : (t : Tables) (s : State) (key : ℕ) → index.Finds t.index t.keys key Nothing → Missed (lookup key) t s
+pub missed_key : (t : Tables) (s : State) (key : ℕ) → index.Finds t.index t.keys key None → Missed (lookup key) t s
 missed_key t s key f l h = found_nothing t s l h key f
 
-module _ (t : Tables) (s : State) (x : ℕ) (low : (l : Ledger) (h : Holds t s l) → x ≡ levels.lowest h.slots) where
-  pub sought_least : x ≢ NONE → Sought least_item t s x
-  sought_least d l h = let w = least t s x low d l h in (w.0, w.1.is, stands_x t s x low d l h)
+pub sought_least : (t : Tables) (s : State) (x : Slot) → Lowest t.buckets s.buckets (Some x) → Sought least_item t s x.0
+sought_least t s x low l h =
+    let names = λ (m : Ledger) (k : Holds t s m). low.answer _ _ _ _ _ k.lists in
+    let w = least t s x names l h in
+    (w.0, w.1.is, stands_x t s x names l h)
 
-  pub missed_least : x ≡ NONE → Missed least_item t s
-  missed_least e l h = lowest_nothing t s l h (sym (low l h) ∙ e)
+pub missed_least : (t : Tables) (s : State) → Lowest t.buckets s.buckets None → Missed least_item t s
+missed_least t s low l h = lowest_nothing t s l h (low.answer _ _ _ _ _ h.lists)
 
 module _ (t : Tables) (vs : List ℕ) (s : State) where
   -- A key that is bound in slot x
@@ -83,20 +86,6 @@ module _ (t : Tables) (vs : List ℕ) (s : State) where
           ap (λ (n : ℕ). done (n ∷ [])) (value_at vs x c w.0 h.values w.2.slot),
           gone.holds c.table w.0 h.table w.2.inside w.2.slot,
           stored_at vs x 0 c w.0 h.values w.2.slot,
-        ))
-
-    -- keys, arena, index and values are kept
-    pub reset_hit : (f' e' p' n' b' sp' : List ℕ) (s' : State) → Restarts t.freqs t.epochs t.prevs t.nexts t.buckets t.spares s x f' e' p' n' b' sp' s' →
-        Does cache (cache_calls (Reset key)) (with_values t vs) s (done (cells t.freqs x ∷ [])) (with_values (tables t.keys f' e' p' n' t.arena t.index b' sp') vs) s'
-    unfolding does cache_reset
-    reset_hit f' e' p' n' b' sp' s' restarts =
-        cache_done (Reset key) t vs s (cells t.freqs x ∷ []) (tables t.keys f' e' p' n' t.arena t.index b' sp') vs s'
-        (λ c h.
-        let w = sought c.table h.table in
-        rw w.1 (
-          λ i. done (w.2.frequency i ∷ []),
-          restarts.holds t.keys t.arena t.index c.table w.0 h.table w.2.inside w.2.slot,
-          h.values,
         ))
 
   -- A key that is not bound
@@ -146,3 +135,18 @@ module _ (t : Tables) (vs : List ℕ) (s : State) where
           gone.holds c.table w.0 h.table w.2.inside w.2.slot,
           stored_at vs x 0 c w.0 h.values w.2.slot,
         ))
+
+-- A reset keeps the guests and the values
+pub reset_hit : (g : Guests (List ℕ)) (e : List ℕ) (v : Tabs) (vs : List ℕ) (s : State) (key x : ℕ) → Sought (lookup key) (joined g e v) s x →
+    (e' : List ℕ) (v' : Tabs) (s' : State) → Restarts e v s x e' v' s' →
+    Does cache (cache_calls (Reset key)) (with_values (joined g e v) vs) s (done (cells v.freqs x ∷ [])) (with_values (joined g e' v') vs) s'
+unfolding does cache_reset
+reset_hit g e v vs s key x sought e' v' s' restarts =
+    cache_done (Reset key) (joined g e v) vs s (cells v.freqs x ∷ []) (joined g e' v') vs s'
+    (λ c h.
+    let w = sought c.table h.table in
+    rw w.1 (
+      λ i. done (w.2.frequency i ∷ []),
+      restarts.holds g c.table w.0 h.table w.2.inside w.2.slot,
+      h.values,
+    ))

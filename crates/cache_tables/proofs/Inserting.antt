@@ -1,24 +1,24 @@
 -- The four ways of an insert into the cache: the key is bound already, there is a free slot, the least goes, or there is no slot at
--- all. By where the key or the least stands, and by what binding and replacing promise; the values are one store each.
-use mathlib.Core.Path.{◌≡◌, refl, sym, ap, ◌∙◌, subst}
+-- all. By where the key or the least stands, and by what binding and replacing promise; the values are one store each, and as they were where
+-- there is no slot.
+use mathlib.Core.Path.{◌≡◌, refl, sym, ap, ◌∙◌}
 use mathlib.Core.Logic.{◌≢◌}
 use mathlib.Core.List.{List, [], ◌∷◌}
 use Prim.Native.Nat.{ℕ}
-use native.Mathlib.Omega.{arith}
-use lib.ListN.{length, get_or, set}
-use lib.Seq.{set-set, set_out}
+use lib.ListN.{get_or, set}
+use lib.Seq.{set-set}
 use Rattle.numbers.specs.Marks.{NONE}
-use Rattle.numbers.specs.declared.Answer.TheVariants.{Full}
+use Rattle.numbers.specs.declared.Refusal.TheVariants.{Full}
+use Rattle.numbers.specs.declared.Slot.{Slot}
 use Rattle.ledger.specs.Ledger.{Ledger, lookup}
 use Rattle.ledger.specs.Buckets.{done, refused}
 use Rattle.ledger.specs.Cache.{cache_insert}
 use Rattle.ledger.specs.History.{Insert, does}
 use Rattle.ledger.specs.CacheCalls.{cache_calls}
-use Rattle.promise.specs.Promise.{DoesOn, Does}
+use Rattle.promise.specs.Promise.{Does}
 use Rattle.links.specs.Chain.{cells}
 use Rattle.slot_arena.proofs.Free.{first_none}
 use Rattle.buckets_tables.specs.declared.State.{State}
-use Rattle.buckets_tables.specs.declared.Placed.{Placed}
 use Rattle.buckets_tables.specs.Tables.{Tables}
 use Rattle.buckets_tables.specs.Holds.{Holds}
 use Rattle.buckets_tables.specs.Calls.{Binds}
@@ -48,11 +48,11 @@ module _ (t : Tables) (vs : List ℕ) (s : State) (key v : ℕ) where
       ))
 
   module _ (missed : Missed (lookup key) t s) where
-    pub insert_new_lem : s.free.first ≢ NONE → (t' : Tables) (r : Placed) → Binds t s key t' r →
-        Does cache (cache_calls (Insert key v)) (with_values t vs) s (done (0 ∷ [])) (with_values t' (set vs r.slot.0 v)) r.state
+    pub insert_new_lem : s.free.first ≢ NONE → (t' : Tables) (x : Slot) (s' : State) → Binds t s key t' x s' →
+        Does cache (cache_calls (Insert key v)) (with_values t vs) s (done (0 ∷ [])) (with_values t' (set vs x.0 v)) s'
     unfolding does cache_insert
-    insert_new_lem d t' r binds =
-        cache_done (Insert key v) t vs s (0 ∷ []) t' (set vs r.slot.0 v) r.state
+    insert_new_lem d t' x s' binds =
+        cache_done (Insert key v) t vs s (0 ∷ []) t' (set vs x.0 v) s'
         (λ c h.
         let e = missed c.table h.table in
         let f = free_some t s c.table h.table d in
@@ -63,19 +63,11 @@ module _ (t : Tables) (vs : List ℕ) (s : State) (key v : ℕ) where
         ))
 
     module _ (full : s.free.first ≡ NONE) where
-      insert_refused : Missed least_item t s → Does cache (cache_calls (Insert key v)) (with_values t vs) s (refused Full) (with_values t vs) s
+      pub insert_refused : Missed least_item t s → Does cache (cache_calls (Insert key v)) (with_values t vs) s (refused Full) (with_values t vs) s
       unfolding does cache_insert
       insert_refused empty =
           cache_refuse (Insert key v) (with_values t vs) s Full
           (λ c h. rw (missed c.table h.table, none_free t s c.table h.table full, empty c.table h.table))
-
-      -- a store at NONE stores nothing
-      pub insert_full_lem : Missed least_item t s → Does cache (cache_calls (Insert key v)) (with_values t vs) s (refused Full) (with_values t (set vs NONE v)) s
-      insert_full_lem empty c h =
-          let a = ap (λ (us : List ℕ). length us) h.values ∙ h.formed.fits in
-          let b = h.table.limit in
-          subst (λ (us : List ℕ). DoesOn cache (cache_calls (Insert key v)) (with_values t vs) s c (refused Full) (with_values t us) s) (sym (set_out vs NONE v (omega arith)))
-          (insert_refused empty c h)
 
       pub insert_out : (x : ℕ) → Sought least_item t s x → (t' : Tables) (s' : State) → Replaces t s x key t' s' →
           Does cache (cache_calls (Insert key v)) (with_values t vs) s (done (1 ∷ cells t.keys x ∷ [])) (with_values t' (set vs x v)) s'

@@ -1,9 +1,6 @@
 -- How the public calls of the cache keep their promises, for every call at once: by what the check has answered.
-use mathlib.Core.Path.{◌≡◌}
-use mathlib.Core.Bool.{Bool, true, false}
-use mathlib.Core.Logic.{◌↔◌}
-use Rattle.numbers.specs.declared.Answer.{Answer}
-use Rattle.numbers.specs.declared.Answer.TheVariants.{Done}
+use Rattle.std.proofs.Common.{◌≡◌, Result, Ok, Err}
+use Rattle.numbers.specs.declared.Refusal.{Refusal}
 use Rattle.ledger.specs.Buckets.{Reply, refused}
 use Rattle.ledger.specs.Cache.{Cache}
 use Rattle.ledger.specs.History.{CacheCall}
@@ -15,19 +12,19 @@ use Rattle.buckets_tables.specs.declared.State.{State}
 use Rattle.cache_tables.specs.Tables.{CacheTables}
 use Rattle.cache_tables.specs.Lent.{cache}
 
-module _ (t : CacheTables) (s : State) (a : Answer) (done : Bool) (c : Checks cache t s a) (told : (done ≡ true) ↔ (a ≡ Done)) where
-  pub checked : done ≡ true → Sound cache t s
-  checked e = keeps.sound_done cache t s a done c told e
+module _ (t : CacheTables) (s : State) (a : Result Unit Refusal) (c : Checks cache t s a) where
+  pub checked : (u : Unit) → a ≡ Ok u → Sound cache t s
+  checked u e = keeps.sound_done cache t s a c u e
 
   -- the call on sound tables does it
-  pub does : (f : Cache → CacheOutcome) (r : Reply) (t' : CacheTables) (s' : State) → done ≡ true → Does cache f t s r t' s' → Promised cache f t s r t' s'
-  does f r t' s' e d = keeps.promised_done cache t s a done c told f r t' s' e d
+  pub does : (f : Cache → CacheOutcome) (r : Reply) (t' : CacheTables) (s' : State) (u : Unit) → a ≡ Ok u → Does cache f t s r t' s' → Promised cache f t s r t' s'
+  does f r t' s' u e d = keeps.promised_done cache t s a c f r t' s' u e d
 
   -- or tells it
-  pub answers : (call : CacheCall) → CacheQuery call → (r : Reply) → done ≡ true → Tells cache (cache_calls call) t s r → Answers cache call t s r
+  pub answers : (call : CacheCall) → CacheQuery call → (r : Reply) (u : Unit) → a ≡ Ok u → Tells cache (cache_calls call) t s r → Answers cache call t s r
   unfolding cache_calls
-  answers call q r e d = keeps.answers cache t s a done c told call (λ l. cache_queries_leave l call q) r e d
+  answers call q r u e d = keeps.answers cache t s a c call (λ l. cache_queries_leave l call q) r u e d
 
   -- the check's own refusal
-  pub refuses : (f : Cache → CacheOutcome) (r : Reply) → done ≡ false → r ≡ refused a → Promised cache f t s r t s
-  refuses f r e told-so = keeps.promised_refused cache t s a done c told f r e told-so
+  pub refuses : (f : Cache → CacheOutcome) (r : Reply) (why : Refusal) → a ≡ Err why → r ≡ refused why → Promised cache f t s r t s
+  refuses f r why e told = keeps.promised_refused cache t s a c f r why e told

@@ -10,10 +10,10 @@ use Rattle.lists.proofs.Members.{in_sum}
 use Rattle.ledger.specs.Ledger.{Ledger, Item, items, lookup, put, release, WellFormed}
 use Rattle.ledger.proofs.Changes.{fresh_after, release_formed}
 use Rattle.ledger.proofs.Refusals.{unbound_of, of_unbound}
+use Rattle.numbers.specs.declared.Slot.{Slot}
 use Rattle.slot_arena.specs.Arena.{ArenaHolds}
 use Rattle.slot_arena.proofs.Free.{first_slot}
 use Rattle.buckets_tables.specs.declared.State.{State}
-use Rattle.buckets_tables.specs.declared.Placed.{Placed}
 use Rattle.buckets_tables.specs.Tables.{Tables}
 use Rattle.buckets_tables.specs.Holds.{Holds}
 use Rattle.buckets_tables.specs.Calls.{Room, Binds, BoundIn, LetsGo}
@@ -52,10 +52,10 @@ module _ (t : Tables) (s : State) (x key : ℕ) where
           free_is = only_left t₁ s₁ r.ledger r.guest r.full h;
         }
 
-    pub replaced : (t₂ : Tables) (p : Placed) → Binds t₁ s₁ key t₂ p → Replaces t s x key t₂ p.state
-    replaced t₂ p binds = record {
+    pub replaced : (t₂ : Tables) (z : Slot) (s₂ : State) → Binds t₁ s₁ key t₂ z s₂ → Replaces t s x key t₂ s₂
+    replaced t₂ z s₂ binds = record {
       holds = λ l y h i e full absent.
           let k = gone.holds l y h i e in
-          subst (λ z. Holds t₂ p.state (put key z [] (release y l))) (first_left t₁ s₁ l y full k)
+          subst (λ w. Holds t₂ s₂ (put key w [] (release y l))) (first_left t₁ s₁ l y full k)
           (binds.holds (release y l) [] k (still_absent l h.formed key y i absent) (only_left t₁ s₁ l y full k));
     }

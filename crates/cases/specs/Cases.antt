@@ -5,7 +5,7 @@ use Prim.Native.Char.{code}
 use Prim.Native.String.{String}
 use Rattle.numbers.specs.Marks.{NONE}
 use Rattle.numbers.specs.Frequency.{CEILING}
-use Rattle.numbers.specs.declared.Answer.TheVariants.{Present, Full, Empty}
+use Rattle.numbers.specs.declared.Refusal.TheVariants.{Present, Full, Empty}
 use Rattle.ledger.specs.Ledger.{Level, Ledger, Item, new, lookup}
 use Rattle.ledger.specs.Buckets.{Reply, done, refused}
 use Rattle.ledger.specs.BucketCalls.{BucketCall, Ask, CurrentEpoch, Insert, Touch, Remove, PopMin, SetEpoch, AdvanceEpoch, DecayHalve, RebaseMinFreq, calls}

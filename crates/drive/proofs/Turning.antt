@@ -10,7 +10,6 @@ use Rattle.buckets_tables.specs.declared.State.{State}
 use Rattle.cache_tables.specs.Tables.{CacheTables}
 use Rattle.trace.specs.Output.{RECORD, little, code_of, key_of, value_of}
 use Rattle.trace_input.specs.Feeding.{record_at}
-use Rattle.trace_input.proofs.Feeding.{SameSizes, sizes_then, sizes_same}
 use Rattle.trace_input.proofs.Records.{code_read, key_read, value_read}
 use Rattle.drive_walk.specs.Walk.{WALK}
 use Rattle.drive_record.specs.Steps.{DrivePrints, DriveSteps}
@@ -31,7 +30,6 @@ pub record Feeding (input : List ℕ) (from end : ℕ) (items₀ out₀ : List �
   pub begun : next ≤ end
   pub forward : from ≤ next
   pub moved : LAST < at → from < next
-  pub sizes : SameSizes t t'
   pub places : length items ≡ length items₀
   pub long : length out ≡ length out₀
   pub room : at ≤ LAST + WALK
@@ -39,7 +37,7 @@ pub record Feeding (input : List ℕ) (from end : ℕ) (items₀ out₀ : List �
 
 module _ (input : List ℕ) (from end : ℕ) (items₀ out₀ : List ℕ) (t : CacheTables) (s : State) where
   pub feeding_start : from ≤ end → Feeding input from end items₀ out₀ t s items₀ t s out₀ 0 from
-  feeding_start h = record { begun = h; forward = omega arith; moved = λ z. absurd (omega arith); sizes = sizes_same t; places = refl; long = refl; room = omega arith; served = begins }
+  feeding_start h = record { begun = h; forward = omega arith; moved = λ z. absurd (omega arith); places = refl; long = refl; room = omega arith; served = begins }
 
   module _ (items : List ℕ) (t' : CacheTables) (s' : State) (out : List ℕ) (at next : ℕ) (so_far : Feeding input from end items₀ out₀ t s items t' s' out at next) where
     -- there is room for one more line
@@ -48,16 +46,15 @@ module _ (input : List ℕ) (from end : ℕ) (items₀ out₀ : List ℕ) (t : C
 
     pub feeding_more : next + RECORD ≤ end → at ≤ LAST → (code a b : ℕ) → code ≡ get_or input next 0 → a ≡ little (take 8 (drop (next + 1) input)) →
         b ≡ little (take 8 (drop (next + 9) input)) → (items' : List ℕ) (t'' : CacheTables) (s'' : State) (out' : List ℕ) (r : ℕ) →
-        DriveSteps code a b t' s' out at t'' s'' out' r → SameSizes t' t'' → length items' ≡ length items → length out' ≡ length out →
+        DriveSteps code a b t' s' out at t'' s'' out' r → length items' ≡ length items → length out' ≡ length out →
         Feeding input from end items₀ out₀ t s items' t'' s'' out' r (next + RECORD)
-    feeding_more more early code a b e₁ e₂ e₃ items' t'' s'' out' r steps sizes places long =
+    feeding_more more early code a b e₁ e₂ e₃ items' t'' s'' out' r steps places long =
         let prints : DrivePrints (code_of (record_at input next)) (key_of (record_at input next)) (value_of (record_at input next)) t' s' steps.line t'' s'' =
         rw (sym (e₁ ∙ code_read input next), sym (e₂ ∙ key_read input next), sym (e₃ ∙ value_read input next)) steps.prints in
         record {
           begun = more;
           forward = let before = so_far.forward in omega arith;
           moved = λ z. let before = so_far.forward in omega arith;
-          sizes = sizes_then t t' t'' so_far.sizes sizes;
           places = places ∙ so_far.places;
           long = long ∙ so_far.long;
           room = let short = steps.spells.short in omega arith;
@@ -70,7 +67,7 @@ module _ (input : List ℕ) (from end : ℕ) (items₀ out₀ : List ℕ) (t : C
     pub left_none : end - next < RECORD → from + RECORD ≤ end → from < next
     left_none less more = omega arith
 
-    pub feeding_end : LAST + WALK ≤ length out₀ → (from + RECORD ≤ end → from < next) → DriveFeeds input from end t s t' out (record { at = at; next = next; state = s' })
+    pub feeding_end : LAST + WALK ≤ length out₀ → (from + RECORD ≤ end → from < next) → DriveFeeds input from end t s t' s' out (record { at = at; next = next })
     feeding_end wide goes = record {
       inside = so_far.begun;
       goes = goes;
@@ -82,35 +79,33 @@ module _ (input : List ℕ) (from end : ℕ) (items₀ out₀ : List ℕ) (t : C
 
 module _ (items input : List ℕ) (from end : ℕ) (out : List ℕ) (b : DriveBuffers items input from end out) (t : CacheTables) (s : State) where
   -- less than a record was left: nothing is carried out
-  pub turned_waits : end - from < RECORD → (input' : List ℕ) → length input' ≡ length input → (r : Turned) → (r.next ≤ r.end) × (r.end ≤ DRIVE_PART) × (r.state ≡ s) →
-      DriveTurns input from end t s items input' t out r
+  pub turned_waits : end - from < RECORD → (input' : List ℕ) → length input' ≡ length input → (r : Turned) → (r.next ≤ r.end) × (r.end ≤ DRIVE_PART) →
+      DriveTurns input from end t s items input' t s out r
   turned_waits little input' kept r ends = record {
     buffers = record { places = b.places; begun = ends.0; part = ends.1; reads = let wide = b.reads in omega arith; prints = b.prints };
     goes = λ more. absurd (omega arith);
     served = λ more. absurd (omega arith);
-    waits = λ less. (refl, ends.2);
+    waits = λ less. (refl, refl);
   }
 
-  pub turned_served : from + RECORD ≤ end → (items' : List ℕ) (t' : CacheTables) (out' : List ℕ) (fed : Fed) (written : Bool) → DriveFeeds input from end t s t' out' fed →
+  pub turned_served : from + RECORD ≤ end → (items' : List ℕ) (t' : CacheTables) (s' : State) (out' : List ℕ) (fed : Fed) (written : Bool) → DriveFeeds input from end t s t' s' out' fed →
       length items' ≡ length items → length out' ≡ length out →
-      DriveTurns input from end t s items' input t' out' (record { more = written; at = fed.at; end = end; next = fed.next; state = fed.state })
-  turned_served more items' t' out' fed written feeds places long = record {
+      DriveTurns input from end t s items' input t' s' out' (record { more = written; at = fed.at; end = end; next = fed.next })
+  turned_served more items' t' s' out' fed written feeds places long = record {
     buffers = record { places = places ∙ b.places; begun = feeds.inside; part = b.part; reads = b.reads; prints = let wide = b.prints in omega arith };
     goes = feeds.goes;
     served = λ z. feeds.served;
     waits = λ less. absurd (omega arith);
   }
 
--- from turn to turn the tables and buffers keep their lengths
-pub record Running (t t' : CacheTables) (items input : List ℕ) (next end : ℕ) (out : List ℕ) : Type 0 where
-  pub sizes : SameSizes t t'
+-- from turn to turn the buffers keep their lengths
+pub record Running (items input : List ℕ) (next end : ℕ) (out : List ℕ) : Type 0 where
   pub buffers : DriveBuffers items input next end out
   pub input_size : LARGE ≡ length input
   pub out_size : ROOM ≡ length out
 
-pub running_start : (t : CacheTables) (items input out : List ℕ) → length items ≡ LIMIT → LARGE ≡ length input → ROOM ≡ length out → Running t t items input DRIVE_PART DRIVE_PART out
-running_start t items input out places large room = record {
-  sizes = sizes_same t;
+pub running_start : (items input out : List ℕ) → length items ≡ LIMIT → LARGE ≡ length input → ROOM ≡ length out → Running items input DRIVE_PART DRIVE_PART out
+running_start items input out places large room = record {
   buffers = record { places = places; begun = omega arith; part = omega arith; reads = omega arith; prints = omega arith };
   input_size = large;
   out_size = room;

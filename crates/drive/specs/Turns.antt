@@ -35,15 +35,15 @@ pub data Serves (input : List ℕ) (from : ℕ) (t₀ : CacheTables) (s₀ : Sta
       Serves input from t₀ s₀ (next + RECORD) (printed ++ line) t' s'
 
 -- what the records print stands at the start of the output buffer; where there is a whole record, at least one is carried out
-pub record DriveFeeds (input : List ℕ) (from end : ℕ) (t : CacheTables) (s : State) (t' : CacheTables) (out' : List ℕ) (r : Fed) : Type 0 where
+pub record DriveFeeds (input : List ℕ) (from end : ℕ) (t : CacheTables) (s : State) (t' : CacheTables) (s' : State) (out' : List ℕ) (r : Fed) : Type 0 where
   pub inside : r.next ≤ end
   pub room : r.at ≤ length out'
   pub goes : from + RECORD ≤ end → from < r.next
-  pub served : Serves input from t s r.next (take r.at out') t' r.state
+  pub served : Serves input from t s r.next (take r.at out') t' s'
 
 -- a turn carries out records and writes what they print; where less than a record is left it changes no table
-pub record DriveTurns (input : List ℕ) (from end : ℕ) (t : CacheTables) (s : State) (items' input' : List ℕ) (t' : CacheTables) (out' : List ℕ) (r : Turned) : Type 0 where
+pub record DriveTurns (input : List ℕ) (from end : ℕ) (t : CacheTables) (s : State) (items' input' : List ℕ) (t' : CacheTables) (s' : State) (out' : List ℕ) (r : Turned) : Type 0 where
   pub buffers : DriveBuffers items' input' r.next r.end out'
   pub goes : from + RECORD ≤ end → from < r.next
-  pub served : from + RECORD ≤ end → Serves input from t s r.next (take r.at out') t' r.state
-  pub waits : end < from + RECORD → (t' ≡ t) × (r.state ≡ s)
+  pub served : from + RECORD ≤ end → Serves input from t s r.next (take r.at out') t' s'
+  pub waits : end < from + RECORD → (t' ≡ t) × (s' ≡ s)

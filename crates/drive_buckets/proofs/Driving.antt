@@ -1,26 +1,43 @@
 -- From the promise of a public call to that of its operation. An operation that a function does not know is not one of its own, so that
 -- what it names is what the next function promises of it.
-use Rattle.std.proofs.Common.{◌≡◌, ℕ, List, ne_eqb}
+use Rattle.std.proofs.Common.{◌≡◌, ℕ, List, subst, ne_eqb}
 use mathlib.Core.Option.{Option, none, some}
 use Rattle.ledger.specs.Buckets.{Reply}
 use Rattle.ledger.specs.BucketCalls.{BucketCall}
 use Rattle.promise.specs.Promise.{Makes}
+use Rattle.levels.specs.Held.{Tabs}
+use Rattle.buckets_tables.specs.declared.Guests.{Guests}
 use Rattle.buckets_tables.specs.declared.State.{State}
 use Rattle.buckets_tables.specs.Tables.{Tables}
+use Rattle.buckets_tables.specs.Slices.{joined}
 use Rattle.buckets_tables.specs.Lent.{buckets}
 use Rattle.drive_lines.specs.declared.Told.{Told}
 use Rattle.drive_lines.specs.Lines.{text, reply_text}
-use Rattle.drive_buckets.specs.Operations.{query_call, epoch_call, decay_call, whole_call, bucket_call, batch_call, DrivesBuckets}
+use Rattle.drive_buckets.specs.Operations.{query_call, epoch_call, decay_call, whole_call, bucket_call, batch_call, ShowsBuckets, DrivesBuckets}
 
 module _ (t : Tables) (s : State) (told : Told) (t' : Tables) (s' : State) where
   -- the call that an operation names was made, and its line is told
-  pub made : (f : ℕ → Option BucketCall) (code m : ℕ) (c : BucketCall) → f m ≡ some c → code ≡ m → (r : Reply) (after : State) → text told ≡ reply_text r → s' ≡ after →
-      Makes buckets c t s r t' after → DrivesBuckets (f code) t s told t' s'
-  made f code m c named e r after line same w = rw (e, named, same) (r, line, w)
+  pub made : (f : ℕ → Option BucketCall) (code m : ℕ) (c : BucketCall) → f m ≡ some c → code ≡ m → (r : Reply) → text told ≡ reply_text r →
+      Makes buckets c t s r t' s' → DrivesBuckets (f code) t s told t' s'
+  made f code m c named e r line w = rw (e, named) (r, line, w)
+
+  pub cleared : (f : ℕ → Option BucketCall) (code m : ℕ) (c : BucketCall) → f m ≡ some c → code ≡ m → ShowsBuckets c t s told t' s' → DrivesBuckets (f code) t s told t' s'
+  cleared f code m c named e w = rw (e, named) w
 
   -- what another function promises of the operation
-  pub sent : (o p : Option BucketCall) → o ≡ p → (line : Told) (after : State) → told ≡ line → s' ≡ after → DrivesBuckets p t s line t' after → DrivesBuckets o t s told t' s'
-  sent o p e line after same stays w = rw (e, same, stays) w
+  pub sent : (o p : Option BucketCall) → o ≡ p → DrivesBuckets p t s told t' s' → DrivesBuckets o t s told t' s'
+  sent o p e w = rw e w
+
+-- Tables that are shown for reading are the tables that are lent
+
+module _ (o : Option BucketCall) (e e' : List ℕ) (s : State) (told : Told) (s' : State) where
+  pub guests_shown : (g g' : Guests (List ℕ)) → g ≡ g' → (l l' : Tabs) → DrivesBuckets o (joined g e l) s told (joined g e' l') s' →
+      DrivesBuckets o (joined g' e l) s told (joined g' e' l') s'
+  guests_shown g g' q l l' w = subst (λ (x : Guests (List ℕ)). DrivesBuckets o (joined x e l) s told (joined x e' l') s') q w
+
+  pub levels_shown : (l l' : Tabs) → l ≡ l' → (g : Guests (List ℕ)) → DrivesBuckets o (joined g e l) s told (joined g e' l) s' →
+      DrivesBuckets o (joined g e l') s told (joined g e' l') s'
+  levels_shown l l' q g w = subst (λ (x : Tabs). DrivesBuckets o (joined g e x) s told (joined g e' x) s') q w
 
 -- Operations of another kind
 

@@ -1,48 +1,66 @@
 -- An operation is the call of its arm: the arm knows its number, and there the table of operations computes. The promise is the call's own.
-use mathlib.Core.Path.{◌≡◌, refl, sym, subst}
+use mathlib.Core.Path.{◌≡◌, refl, subst}
 use mathlib.Core.Logic.{◌⊎◌, inl, inr}
 use mathlib.Core.List.{List}
+use Rattle.std.proofs.Common.{Result}
 use Prim.Native.Nat.{ℕ}
 use borrow.Author.Tests.{ne_eqb}
-use Rattle.numbers.specs.declared.Answer.{Answer}
+use Rattle.numbers.specs.declared.Refusal.{Refusal}
 use Rattle.ledger.specs.Buckets.{Reply}
 use Rattle.ledger.specs.Cache.{Cache}
 use Rattle.ledger.specs.History.{CacheCall, Insert}
 use Rattle.ledger.specs.CacheCalls.{CacheOutcome}
 use Rattle.promise.specs.Promise.{Promised, Makes, Checks}
+use Rattle.levels.specs.Held.{Tabs}
+use Rattle.buckets_tables.specs.declared.Guests.{Guests}
 use Rattle.buckets_tables.specs.declared.State.{State}
+use Rattle.buckets_tables.specs.Slices.{joined}
 use Rattle.answers.specs.declared.Insertion.{Insertion}
 use Rattle.answers.specs.Replies.{insertion_reply, plain_reply}
-use Rattle.cache_tables.specs.Tables.{CacheTables}
+use Rattle.cache_tables.specs.Tables.{CacheTables, with_values}
 use Rattle.cache_tables.specs.Lent.{cache}
 use Rattle.lfu_batches.specs.Batches.{InsertsAll}
 use Rattle.drive_lines.specs.declared.Told.{Told}
 use Rattle.drive_lines.specs.Driving.{Stays}
 use Rattle.drive_lines.specs.Lines.{text, reply_text, insertion_text}
-use Rattle.drive_cache.specs.Operations.{Check, Single, InsertAll, Batch, question, cache_call, batch_call, Says, DrivesCache}
+use Rattle.drive_cache.specs.Operations.{CacheOperation, Check, Single, InsertAll, Batch, question, cache_call, batch_call, Says, DrivesCache}
 
--- The promise of a call, with its line and its state handed on
+-- The promise of a call, with its line
 
-module _ (t : CacheTables) (s : State) (told : Told) (t' : CacheTables) (s' s'' : State) (same : s'' ≡ s') where
-  pub batched : (f : Cache → CacheOutcome) (r : Reply) → text told ≡ reply_text r → Promised cache f t s r t' s' → DrivesCache (Batch f) t s told t' s''
+module _ (t : CacheTables) (s : State) (told : Told) (t' : CacheTables) (s' : State) where
+  pub batched : (f : Cache → CacheOutcome) (r : Reply) → text told ≡ reply_text r → Promised cache f t s r t' s' → DrivesCache (Batch f) t s told t' s'
   unfolding DrivesCache
-  batched f r e p = (r, e, subst (λ (z : State). Promised cache f t s r t' z) (sym same) p)
+  batched f r e p = (r, e, p)
 
-  pub all_inserted : (ks vs : List ℕ) (r : Reply) → text told ≡ reply_text r → InsertsAll ks vs t s r t' s' → DrivesCache (InsertAll ks vs) t s told t' s''
+  pub all_inserted : (ks vs : List ℕ) (r : Reply) → text told ≡ reply_text r → InsertsAll ks vs t s r t' s' → DrivesCache (InsertAll ks vs) t s told t' s'
   unfolding DrivesCache
-  all_inserted ks vs r e p = (r, e, subst (λ (z : State). InsertsAll ks vs t s r t' z) (sym same) p)
+  all_inserted ks vs r e p = (r, e, p)
 
-  pub called : (c : CacheCall) (r : Reply) → Says c told r → Makes cache c t s r t' s' → DrivesCache (Single c) t s told t' s''
+  pub called : (c : CacheCall) (r : Reply) → Says c told r → Makes cache c t s r t' s' → DrivesCache (Single c) t s told t' s'
   unfolding DrivesCache
-  called c r e p = (r, e, subst (λ (z : State). Makes cache c t s r t' z) (sym same) p)
+  called c r e p = (r, e, p)
 
-  pub bound : (k v : ℕ) (a : Insertion) → text told ≡ insertion_text a → Makes cache (Insert k v) t s (insertion_reply a) t' s' →
-      DrivesCache (Single (Insert k v)) t s told t' s''
+  pub bound : (k v : ℕ) (a : Result Insertion Refusal) → text told ≡ insertion_text a → Makes cache (Insert k v) t s (insertion_reply a) t' s' →
+      DrivesCache (Single (Insert k v)) t s told t' s'
   bound k v a e p = called (Insert k v) (insertion_reply a) (a, refl, e) p
 
-pub checked : (t : CacheTables) (s : State) (told : Told) (a : Answer) → text told ≡ reply_text (plain_reply a) → Checks cache t s a → DrivesCache Check t s told t s
+pub checked : (t : CacheTables) (s : State) (told : Told) (a : Result Unit Refusal) → text told ≡ reply_text (plain_reply a) → Checks cache t s a →
+    DrivesCache Check t s told t s
 unfolding DrivesCache
 checked t s told a e p = ((a, e, p), refl, refl)
+
+-- Tables that are shown for reading are the tables that are lent
+
+module _ (o : CacheOperation) (e e' vs vs' : List ℕ) (s : State) (told : Told) (s' : State) where
+  pub guests_shown : (g g' : Guests (List ℕ)) → g ≡ g' → (l l' : Tabs) →
+      DrivesCache o (with_values (joined g e l) vs) s told (with_values (joined g e' l') vs') s' →
+      DrivesCache o (with_values (joined g' e l) vs) s told (with_values (joined g' e' l') vs') s'
+  guests_shown g g' q l l' w = subst (λ (x : Guests (List ℕ)). DrivesCache o (with_values (joined x e l) vs) s told (with_values (joined x e' l') vs') s') q w
+
+  pub levels_shown : (l l' : Tabs) → l ≡ l' → (g : Guests (List ℕ)) →
+      DrivesCache o (with_values (joined g e l) vs) s told (with_values (joined g e' l) vs') s' →
+      DrivesCache o (with_values (joined g e l') vs) s told (with_values (joined g e' l') vs') s'
+  levels_shown l l' q g w = subst (λ (x : Tabs). DrivesCache o (with_values (joined g e x) vs) s told (with_values (joined g e' x) vs') s') q w
 
 -- Which call an operation is
 

@@ -1,6 +1,7 @@
 -- What an operation asks of the cache, and what its line and the tables after it are: the line spells a reply that the promise of the public
 -- call allows. An operation that is none prints `BAD` and leaves everything.
-use Rattle.std.specs.Prelude.{◌≡◌, cond, List, ℕ, eqb}
+use Rattle.std.specs.Prelude.{◌≡◌, cond, List, ℕ, eqb, Result}
+use Rattle.numbers.specs.declared.Refusal.{Refusal}
 use Rattle.ledger.specs.Buckets.{Reply}
 use Rattle.ledger.specs.Cache.{Cache}
 use Rattle.ledger.specs.History.{CacheCall, Insert, Get, Peek, Remove, Reset, PeekLfu, Evict, Clear, Len}
@@ -52,7 +53,7 @@ batch_call code ks vs =
 
 -- the line of a call's reply: how an insert went is a word
 abbrev pub Says : CacheCall → Told → Reply → Type 0
-Says (Insert k v) told r = (a : Insertion) × (r ≡ insertion_reply a) × (text told ≡ insertion_text a)
+Says (Insert k v) told r = (a : Result Insertion Refusal) × (r ≡ insertion_reply a) × (text told ≡ insertion_text a)
 Says (Get k) told r = text told ≡ reply_text r
 Says (Peek k) told r = text told ≡ reply_text r
 Says (Remove k) told r = text told ≡ reply_text r

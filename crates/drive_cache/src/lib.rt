@@ -1,15 +1,17 @@
-// The cache's operations of `drive`: each is one public call, or the check that they all make, and what is told of its answer. The tables are named k f e p n ar ix bk sp vs:
-// keys, freqs, epochs, prevs, nexts, arena, index, buckets, spares and values.
+// The cache's operations of `drive`: each is one public call, or the check that they all make, and what is told of its answer.
 #![tactic(auto)]
 
-ghost use Rattle.cache_tables.specs.Slices.{lent};
-ghost use Rattle.drive_cache.specs.Operations.{question, cache_call, batch_call, DrivesCache};
+ghost use Rattle.ledger.specs.History.{Clear};
+ghost use Rattle.levels.specs.Held.{tabs};
+ghost use Rattle.buckets_tables.specs.Slices.{joined, lent_guests, Same, SameGuests};
+ghost use Rattle.cache_tables.specs.Tables.{with_values};
+ghost use Rattle.cache_tables.specs.Slices.{lent, shown};
+ghost use Rattle.drive_cache.specs.Operations.{question, cache_call, batch_call, Single, DrivesCache};
 
-use buckets_tables::State;
-use cache_check::refusal;
-use drive_lines::after::{counted, evicted, inserted, leveled, stored, valued};
-use drive_lines::cached::{least, value};
-use drive_lines::{Driven, Told, count, plain};
+use buckets_tables::{GuestTables, Guests, State};
+use cache_check::check;
+use drive_lines::{Told, tell, tell_insertion};
+use levels::{LevelTables, Levels};
 use lfu::{evict_min_freq, get, insert, remove, reset_frequency};
 use lfu_batches::{insert_batch, remove_batch, touch_batch};
 use lfu_make::clear;
@@ -18,95 +20,123 @@ use numbers::Key;
 use trace::Word;
 
 // The operations that only answer; any other is BAD.
-pub fn asks(
-    k: &[u64],
-    f: &[u64],
-    e: &[u64],
-    p: &[u64],
-    n: &[u64],
-    ar: &[u64],
-    ix: &[u64],
-    bk: &[u64],
-    sp: &[u64],
-    vs: &[u64],
+fn asks(
+    guests: &Guests<&[u64]>,
+    epochs: &[u64],
+    levels: &Levels<&[u64]>,
+    values: &[u64],
     state: State,
     code: u8,
     a: u64,
 ) -> Told
-    ensures { DrivesCache (question code a) (lent k.now f.now e.now p.now n.now ar.now ix.now bk.now sp.now vs.now) state result (lent k.now f.now e.now p.now n.now ar.now ix.now bk.now sp.now vs.now) state }
+    ensures { DrivesCache (question code a)
+        (shown guests.now epochs.now levels.now values.now) state result
+        (shown guests.now epochs.now levels.now values.now) state }
 {
     match code {
-        42 => value(peek(k, f, e, p, n, ar, ix, bk, sp, vs, state, Key(a))),
-        45 => least(peek_lfu(k, f, e, p, n, ar, ix, bk, sp, vs, state)),
-        48 => count(len(k, f, e, p, n, ar, ix, bk, sp, vs, state)),
-        49 => plain(refusal(k, f, e, p, n, ar, ix, bk, sp, vs, state)),
+        42 => tell(peek(guests, epochs, levels, values, state, Key(a))),
+        45 => tell(peek_lfu(guests, epochs, levels, values, state)),
+        48 => tell(len(guests, epochs, levels, values, state)),
+        49 => tell(check(guests, epochs, levels, values, state)),
         _ => Told::Just(Word::Bad),
     }
 }
 
+// 44. The bucket records are read only; they are lent for writing, as all tables of a `Levels` are that is itself lent so.
+fn clears(
+    guests: &mut Guests<&mut [u64]>,
+    epochs: &mut [u64],
+    freqs: &mut [u64],
+    prevs: &mut [u64],
+    nexts: &mut [u64],
+    buckets: &mut [u64],
+    spares: &mut [u64],
+    values: &mut [u64],
+    state: &mut State,
+) -> Told
+    ensures same { SameGuests guests.old guests.new }
+    ensures does { DrivesCache (Single Clear)
+        (with_values (joined (lent_guests guests.old) epochs.old (tabs freqs.old prevs.old nexts.old buckets.old spares.old)) values.old) state.old result
+        (with_values (joined (lent_guests guests.new) epochs.new (tabs freqs.new prevs.new nexts.new buckets.new spares.new)) values.new) state.new }
+{
+    tell(clear(
+        guests,
+        epochs,
+        freqs,
+        prevs,
+        nexts,
+        &buckets[..],
+        spares,
+        values,
+        state,
+    ))
+}
+
 // One operation on a key, or on the whole cache.
 pub fn act(
-    k: &mut [u64],
-    f: &mut [u64],
-    e: &mut [u64],
-    p: &mut [u64],
-    n: &mut [u64],
-    ar: &mut [u64],
-    ix: &mut [u64],
-    bk: &mut [u64],
-    sp: &mut [u64],
-    vs: &mut [u64],
-    state: State,
+    guests: &mut Guests<&mut [u64]>,
+    epochs: &mut [u64],
+    levels: &mut Levels<&mut [u64]>,
+    values: &mut [u64],
+    state: &mut State,
     code: u8,
     a: u64,
     b: u64,
-) -> Driven
-    ensures { DrivesCache (cache_call code a b)
-        (lent k.old f.old e.old p.old n.old ar.old ix.old bk.old sp.old vs.old) state result.told
-        (lent k.new f.new e.new p.new n.new ar.new ix.new bk.new sp.new vs.new) result.state }
+) -> Told
+    ensures same { Same guests.old guests.new levels.old levels.new }
+    ensures does { DrivesCache (cache_call code a b)
+        (lent guests.old epochs.old levels.old values.old) state.old result
+        (lent guests.new epochs.new levels.new values.new) state.new }
 {
     match code {
-        40 => inserted(insert(k, f, e, p, n, ar, ix, bk, sp, vs, state, Key(a), b)),
-        41 => valued(get(k, f, e, p, n, ar, ix, bk, sp, vs, state, Key(a))),
-        43 => valued(remove(k, f, e, p, n, ar, ix, bk, sp, vs, state, Key(a))),
-        44 => stored(clear(k, f, e, p, n, ar, ix, bk, sp, vs, state)),
-        46 => evicted(evict_min_freq(k, f, e, p, n, ar, ix, bk, sp, vs, state)),
-        47 => leveled(reset_frequency(k, f, e, p, n, ar, ix, bk, sp, vs, state, Key(a))),
-        _ => Driven {
-            told: asks(k, f, e, p, n, ar, ix, bk, sp, vs, state, code, a),
-            state: state,
-        },
+        40 => tell_insertion(insert(guests, epochs, levels, values, state, Key(a), b)),
+        41 => tell(get(&guests.shown(), epochs, levels, &values[..], state, Key(a))),
+        43 => tell(remove(guests, epochs, levels, values, state, Key(a))),
+        44 => clears(
+            guests,
+            epochs,
+            levels.freqs,
+            levels.prevs,
+            levels.nexts,
+            levels.buckets,
+            levels.spares,
+            values,
+            state,
+        ),
+        46 => tell(evict_min_freq(guests, epochs, levels, values, state)),
+        47 => tell(reset_frequency(&guests.shown(), epochs, levels, &values[..], state, Key(a))),
+        _ => asks(
+            &guests.shown(),
+            &epochs[..],
+            &levels.shown(),
+            &values[..],
+            *state,
+            code,
+            a,
+        ),
     }
 }
 
 // One operation on several keys; an insert is given values too.
 pub fn batch(
-    k: &mut [u64],
-    f: &mut [u64],
-    e: &mut [u64],
-    p: &mut [u64],
-    n: &mut [u64],
-    ar: &mut [u64],
-    ix: &mut [u64],
-    bk: &mut [u64],
-    sp: &mut [u64],
-    vs: &mut [u64],
-    state: State,
+    guests: &mut Guests<&mut [u64]>,
+    epochs: &mut [u64],
+    levels: &mut Levels<&mut [u64]>,
+    values: &mut [u64],
+    state: &mut State,
     items: &[u64],
     given: &[u64],
     code: u8,
-) -> Driven
-    ensures { DrivesCache (batch_call code items.now given.now)
-        (lent k.old f.old e.old p.old n.old ar.old ix.old bk.old sp.old vs.old) state result.told
-        (lent k.new f.new e.new p.new n.new ar.new ix.new bk.new sp.new vs.new) result.state }
+) -> Told
+    ensures same { Same guests.old guests.new levels.old levels.new }
+    ensures does { DrivesCache (batch_call code items.now given.now)
+        (lent guests.old epochs.old levels.old values.old) state.old result
+        (lent guests.new epochs.new levels.new values.new) state.new }
 {
     match code {
-        63 | 66 => counted(insert_batch(k, f, e, p, n, ar, ix, bk, sp, vs, state, items, given)),
-        64 => counted(remove_batch(k, f, e, p, n, ar, ix, bk, sp, vs, state, items)),
-        65 => counted(touch_batch(k, f, e, p, n, ar, ix, bk, sp, vs, state, items)),
-        _ => Driven {
-            told: Told::Just(Word::Bad),
-            state: state,
-        },
+        63 | 66 => tell(insert_batch(guests, epochs, levels, values, state, items, given)),
+        64 => tell(remove_batch(guests, epochs, levels, values, state, items)),
+        65 => tell(touch_batch(&guests.shown(), epochs, levels, &values[..], state, items)),
+        _ => Told::Just(Word::Bad),
     }
 }

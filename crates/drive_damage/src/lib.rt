@@ -1,22 +1,16 @@
-// The damage that `drive` does on demand: one number put into a table or into the state, whatever it breaks there. The tables are named k f
-// e p n ar ix bk sp vs: keys, freqs, epochs, prevs, nexts, arena, index, buckets, spares and values.
+// The damage that `drive` does on demand: one number put into a table or into the state, whatever it breaks there.
 #![tactic(auto)]
 
+ghost use Rattle.buckets_tables.specs.Slices.{Same};
 ghost use Rattle.cache_tables.specs.Slices.{lent};
 ghost use Rattle.drive_damage.specs.Damage.{Puts, Damages, Alters};
 
-use buckets_tables::State;
+use buckets_tables::{Guests, State};
+use levels::Levels;
 use trace::Word;
 
 // How many places each table is given in the numbers of places.
 const PLACES: u64 = 65536;
-
-// Whether there is such a field, and the state after it.
-#[derive(Clone, Copy)]
-pub struct Altered {
-    pub word: Word,
-    pub state: State,
-}
 
 // One number into one table.
 fn put(t: &mut [u64], place: u64, b: u64) -> Word
@@ -31,41 +25,40 @@ fn put(t: &mut [u64], place: u64, b: u64) -> Word
 }
 
 // b at place a % PLACES of table a / PLACES.
+#[tactic(auto, using(crate::proofs::Damaging::damaged, crate::proofs::Damaging::damaged_none, crate::proofs::Damaging::none_of_ten))]
 pub fn store(
-    k: &mut [u64],
-    f: &mut [u64],
-    e: &mut [u64],
-    p: &mut [u64],
-    n: &mut [u64],
-    ar: &mut [u64],
-    ix: &mut [u64],
-    bk: &mut [u64],
-    sp: &mut [u64],
-    vs: &mut [u64],
+    guests: &mut Guests<&mut [u64]>,
+    epochs: &mut [u64],
+    levels: &mut Levels<&mut [u64]>,
+    values: &mut [u64],
     a: u64,
     b: u64,
 ) -> Word
-    ensures { Damages a b (lent k.old f.old e.old p.old n.old ar.old ix.old bk.old sp.old vs.old) result (lent k.new f.new e.new p.new n.new ar.new ix.new bk.new sp.new vs.new) }
+    ensures same { Same guests.old guests.new levels.old levels.new }
+    ensures does { Damages a b
+        (lent guests.old epochs.old levels.old values.old) result
+        (lent guests.new epochs.new levels.new values.new) }
 {
     let place = a % PLACES;
     match a / PLACES {
-        0 => put(k, place, b),
-        1 => put(f, place, b),
-        2 => put(e, place, b),
-        3 => put(p, place, b),
-        4 => put(n, place, b),
-        5 => put(ar, place, b),
-        6 => put(ix, place, b),
-        7 => put(bk, place, b),
-        8 => put(sp, place, b),
-        9 => put(vs, place, b),
+        0 => put(guests.keys, place, b),
+        1 => put(levels.freqs, place, b),
+        2 => put(epochs, place, b),
+        3 => put(levels.prevs, place, b),
+        4 => put(levels.nexts, place, b),
+        5 => put(guests.arena, place, b),
+        6 => put(guests.index, place, b),
+        7 => put(levels.buckets, place, b),
+        8 => put(levels.spares, place, b),
+        9 => put(values, place, b),
         _ => Word::Bad,
     }
 }
 
 // b in field a of the state.
-pub fn set_field(mut state: State, a: u64, b: u64) -> Altered
-    ensures { Alters a b state result.word result.state }
+#[tactic(auto, using(crate::proofs::Damaging::altered, crate::proofs::Damaging::altered_none, crate::proofs::Damaging::none_of_ten))]
+pub fn set_field(state: &mut State, a: u64, b: u64) -> Word
+    ensures { Alters a b state.old result state.new }
 {
     match a {
         0 => state.capacity = b,
@@ -78,15 +71,7 @@ pub fn set_field(mut state: State, a: u64, b: u64) -> Altered
         7 => state.buckets.top = b,
         8 => state.buckets.spare.first = b,
         9 => state.buckets.spare.last = b,
-        _ => {
-            return Altered {
-                word: Word::Bad,
-                state: state,
-            };
-        }
+        _ => return Word::Bad,
     }
-    Altered {
-        word: Word::Okay,
-        state: state,
-    }
+    Word::Okay
 }

@@ -2,89 +2,111 @@
 // one into a buffer stands in `sound`.
 #![tactic(auto)]
 
-ghost use Rattle.std.specs.Prelude.{◌≡◌};
-ghost use Rattle.answers.specs.Replies.{level_reply, least_reply, epoch_reply, count_reply, asked_reply, plain_reply};
-ghost use Rattle.drive_lines.specs.Lines.{text, reply_text};
+ghost use Rattle.std.specs.Prelude.{◌≡◌, [], ◌∷◌, ◌++◌, List, ℕ};
+ghost use Rattle.numbers.specs.Answer.{DONE};
+ghost use Rattle.ledger.specs.Buckets.{yes_no};
+ghost use Rattle.answers.specs.Replies.{reply};
+ghost use Rattle.trace.specs.Lines.{decimal};
+ghost use Rattle.drive_lines.specs.Lines.{text, ending, reply_text, insertion_text};
 
-use answers::{Asked, Count, Epoch, Least, Level};
-use buckets_tables::State;
-use numbers::Answer;
+use answers::Insertion;
+use numbers::{Frequency, Key, Refusal};
 use trace::{Line, Word};
 
-pub mod after;
-pub mod cached;
 pub mod sound;
 
-// What is told of a call: a number alone, DONE with values, DONE and how an insert into the cache went; or a word of `drive` itself.
+// What is told of a call: DONE with its values, or with how an insert into the cache went; a refusal; or a word of `drive` itself.
 #[derive(Clone, Copy)]
 pub enum Told {
-    Alone(Answer),
+    Done,
     One(u64),
     Two(u64, u64),
     Stored(Line),
+    Refused(Refusal),
     Just(Word),
 }
 
-// What is told of a call on lent tables, and the state after it.
-#[derive(Clone, Copy)]
-pub struct Driven {
-    pub told: Told,
-    pub state: State,
+// What a call answers in numbers.
+pub trait Tells {
+    // Which.
+    ghost values: { Self → List ℕ };
+
+    // DONE, and these.
+    fn told(self) -> Told
+        ensures { text result ≡ decimal DONE ++ ending (values self) };
 }
 
-// A call that answers no value.
-pub fn plain(answer: Answer) -> Told
-    ensures { text result ≡ reply_text (plain_reply answer) }
-{
-    Told::Alone(answer)
-}
+impl Tells for () {
+    ghost values = { λ u. [] };
 
-// A call that answers a frequency.
-pub fn level(answer: Level) -> Told
-    ensures { text result ≡ reply_text (level_reply answer) }
-{
-    match answer {
-        Level::At(frequency) => Told::One(frequency.0),
-        Level::Refused(why) => Told::Alone(why),
+    fn told(self) -> Told {
+        Told::Done
     }
 }
 
-// A call that answers a key and its frequency.
-pub fn least(answer: Least) -> Told
-    ensures { text result ≡ reply_text (least_reply answer) }
-{
-    match answer {
-        Least::Is(key, frequency) => Told::Two(key.0, frequency.0),
-        Least::Refused(why) => Told::Alone(why),
+impl Tells for u64 {
+    ghost values = { λ n. n ∷ [] };
+
+    fn told(self) -> Told {
+        Told::One(self)
     }
 }
 
-// A call that answers an epoch.
-pub fn epoch(answer: Epoch) -> Told
-    ensures { text result ≡ reply_text (epoch_reply answer) }
-{
-    match answer {
-        Epoch::Is(n) => Told::One(n),
-        Epoch::Refused(why) => Told::Alone(why),
+// Yes is 1 and no is 0.
+impl Tells for bool {
+    ghost values = { λ b. yes_no b ∷ [] };
+
+    fn told(self) -> Told {
+        Told::One(self as u64)
     }
 }
 
-// A call that answers a count.
-pub fn count(answer: Count) -> Told
-    ensures { text result ≡ reply_text (count_reply answer) }
-{
-    match answer {
-        Count::Is(n) => Told::One(n),
-        Count::Refused(why) => Told::Alone(why),
+impl Tells for Frequency {
+    ghost values = { λ f. f.0 ∷ [] };
+
+    fn told(self) -> Told {
+        Told::One(self.0)
     }
 }
 
-// A call that answers yes or no: 1 or 0.
-pub fn asked(answer: Asked) -> Told
-    ensures { text result ≡ reply_text (asked_reply answer) }
+// A key and its frequency.
+impl Tells for (Key, Frequency) {
+    ghost values = { λ p. p.0.0 ∷ p.1.0 ∷ [] };
+
+    fn told(self) -> Told {
+        let (key, frequency) = self;
+        Told::Two(key.0, frequency.0)
+    }
+}
+
+// A key and its value.
+impl Tells for (Key, u64) {
+    ghost values = { λ p. p.0.0 ∷ p.1 ∷ [] };
+
+    fn told(self) -> Told {
+        let (key, value) = self;
+        Told::Two(key.0, value)
+    }
+}
+
+// What is told of an answer in numbers, or of a refusal.
+pub fn tell<T: Tells>(answer: Result<T, Refusal>) -> Told
+    ensures { text result ≡ reply_text (reply T.values answer) }
 {
     match answer {
-        Asked::Is(yes) => Told::One(yes as u64),
-        Asked::Refused(why) => Told::Alone(why),
+        Ok(values) => values.told(),
+        Err(why) => Told::Refused(why),
+    }
+}
+
+// What is told of an insert into the cache: how it went is a word.
+pub fn tell_insertion(answer: Result<Insertion, Refusal>) -> Told
+    ensures { text result ≡ insertion_text answer }
+{
+    match answer {
+        Ok(Insertion::New) => Told::Stored(Line::Plain(Word::New)),
+        Ok(Insertion::NewOut(key)) => Told::Stored(Line::One(Word::NewOut, key.0)),
+        Ok(Insertion::Old(value)) => Told::Stored(Line::One(Word::Old, value)),
+        Err(why) => Told::Refused(why),
     }
 }

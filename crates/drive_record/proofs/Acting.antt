@@ -1,5 +1,5 @@
 -- Which operation a code is, by the tests on the way to it; there the table of operations computes. What is done is the promise of the call.
-use mathlib.Core.Path.{◌≡◌, refl, sym, ap, ◌∙◌, subst}
+use mathlib.Core.Path.{◌≡◌, refl, sym, ap, ◌∙◌}
 use mathlib.Core.List.{List, ◌∷◌, ◌++◌}
 use Prim.Native.Nat.{ℕ, zero, suc, ◌+◌, ◌-◌, ◌^◌, ◌%◌, ◌≤◌, ◌<◌}
 use native.Mathlib.Omega.{arith}
@@ -31,8 +31,8 @@ module _ (code a b : ℕ) (t : CacheTables) (s : State) (told : Told) (t' : Cach
   pub acted_store : code ≡ 30 → (w : Word) → told ≡ Just w → Damages a b t w t' → s' ≡ s → Acts (operation_of code a b) a b t s told t' s'
   acted_store e w p d r = rw e (w, p, d, r)
 
-  pub acted_field : code ≡ 31 → (w : Word) (s'' : State) → told ≡ Just w → s' ≡ s'' → Alters a b s w s'' → t' ≡ t → Acts (operation_of code a b) a b t s told t' s'
-  acted_field e w s'' p z d r = rw e (w, p, subst (λ (y : State). Alters a b s w y) (sym z) d, r)
+  pub acted_field : code ≡ 31 → (w : Word) → told ≡ Just w → Alters a b s w s' → t' ≡ t → Acts (operation_of code a b) a b t s told t' s'
+  acted_field e w p d r = rw e (w, p, d, r)
 
   module _ (not-check : code ≡ 21 → ⊥) (not-store : code ≡ 30 → ⊥) (not-field : code ≡ 31 → ⊥) where
     pub acted_bucket : code < 40 → bucket.DrivesBuckets (bucket_call code a b) t.base s told t'.base s' → t'.values ≡ t.values →

@@ -1,148 +1,125 @@
 // One record of `drive`, by its operation. The keys and values of a batch are put into a table of their own, which is known to have a place
-// for each slot that there can be. The tables are named k f e p n ar ix bk sp vs: keys, freqs, epochs, prevs, nexts, arena, index, buckets, spares
-// and values.
+// for each slot that there can be.
 ghost use Rattle.std.specs.Prelude.{◌≡◌, ◌+◌, ◌≤◌, length};
 ghost use Rattle.numbers.specs.Marks.{LIMIT};
+ghost use Rattle.buckets_tables.specs.Slices.{Same};
 ghost use Rattle.cache_tables.specs.Slices.{lent};
 ghost use Rattle.drive_walk.specs.Walk.{WALK};
 ghost use Rattle.drive_record.specs.Operations.{Acts, operation_of, batch_of};
 ghost use Rattle.drive_record.specs.Steps.{DriveSteps};
 
-use crate::{Stepped, altered, surplus};
-use buckets_tables::State;
+use crate::surplus;
+use buckets_tables::{GuestTables, Guests, State};
 use drive_buckets::batches;
 use drive_buckets::batches::fill;
 use drive_damage::{set_field, store};
+use drive_lines::Told;
 use drive_lines::sound::write;
-use drive_lines::{Driven, Told};
 use drive_walk::sound::walk;
+use levels::{LevelTables, Levels};
 use numbers::LIMIT;
 use trace::Word;
 
 // A batch of at most as many keys, and as many values, as there can be slots. A key is its own value.
 fn batch(
-    k: &mut [u64],
-    f: &mut [u64],
-    e: &mut [u64],
-    p: &mut [u64],
-    n: &mut [u64],
-    ar: &mut [u64],
-    ix: &mut [u64],
-    bk: &mut [u64],
-    sp: &mut [u64],
-    vs: &mut [u64],
+    guests: &mut Guests<&mut [u64]>,
+    epochs: &mut [u64],
+    levels: &mut Levels<&mut [u64]>,
+    values: &mut [u64],
     items: &mut [u64],
-    state: State,
+    state: &mut State,
     code: u8,
     a: u64,
     b: u64,
-) -> Driven
+) -> Told
     requires { length items.old ≡ LIMIT }
-    ensures { Acts (batch_of code a b) a b
-        (lent k.old f.old e.old p.old n.old ar.old ix.old bk.old sp.old vs.old) state result.told
-        (lent k.new f.new e.new p.new n.new ar.new ix.new bk.new sp.new vs.new) result.state }
+    ensures same { Same guests.old guests.new levels.old levels.new }
+    ensures does { Acts (batch_of code a b) a b
+        (lent guests.old epochs.old levels.old values.old) state.old result
+        (lent guests.new epochs.new levels.new values.new) state.new }
 {
     let more = surplus(code);
     if b > LIMIT - more {
-        return Driven {
-            told: Told::Just(Word::Bad),
-            state: state,
-        };
+        return Told::Just(Word::Bad);
     }
     let many = b as usize;
-    let given = many + more as usize;
-    fill(&mut items[..given], a);
-    let values = &items[..given];
-    let keys = &values[..many];
+    let count = many + more as usize;
+    fill(&mut items[..count], a);
+    let given = &items[..count];
+    let keys = &given[..many];
     if code < 63 {
-        return batches::batch(k, f, e, p, n, ar, ix, bk, sp, state, keys, code);
+        return batches::batch(guests, epochs, levels, state, keys, code);
     }
-    drive_cache::batch(k, f, e, p, n, ar, ix, bk, sp, vs, state, keys, values, code)
+    drive_cache::batch(guests, epochs, levels, values, state, keys, given, code)
 }
 
 // One record but a walk.
 pub fn act(
-    k: &mut [u64],
-    f: &mut [u64],
-    e: &mut [u64],
-    p: &mut [u64],
-    n: &mut [u64],
-    ar: &mut [u64],
-    ix: &mut [u64],
-    bk: &mut [u64],
-    sp: &mut [u64],
-    vs: &mut [u64],
+    guests: &mut Guests<&mut [u64]>,
+    epochs: &mut [u64],
+    levels: &mut Levels<&mut [u64]>,
+    values: &mut [u64],
     items: &mut [u64],
-    state: State,
+    state: &mut State,
     code: u8,
     a: u64,
     b: u64,
-) -> Driven
+) -> Told
     requires { length items.old ≡ LIMIT }
-    ensures { Acts (operation_of code a b) a b
-        (lent k.old f.old e.old p.old n.old ar.old ix.old bk.old sp.old vs.old) state result.told
-        (lent k.new f.new e.new p.new n.new ar.new ix.new bk.new sp.new vs.new) result.state }
+    ensures same { Same guests.old guests.new levels.old levels.new }
+    ensures does { Acts (operation_of code a b) a b
+        (lent guests.old epochs.old levels.old values.old) state.old result
+        (lent guests.new epochs.new levels.new values.new) state.new }
 {
     if code == 21 {
-        return Driven {
-            told: drive_buckets::check(k, f, e, p, n, ar, ix, bk, sp, state),
-            state: state,
-        };
+        return drive_buckets::check(guests, &epochs[..], levels, *state);
     }
     if code == 30 {
-        return Driven {
-            told: Told::Just(store(k, f, e, p, n, ar, ix, bk, sp, vs, a, b)),
-            state: state,
-        };
+        return Told::Just(store(guests, epochs, levels, values, a, b));
     }
     if code == 31 {
-        return altered(set_field(state, a, b));
+        return Told::Just(set_field(state, a, b));
     }
     if code < 40 {
-        return drive_buckets::act(k, f, e, p, n, ar, ix, bk, sp, state, code, a, b);
+        return drive_buckets::act(guests, epochs, levels, state, code, a, b);
     }
     if code < 60 {
-        return drive_cache::act(k, f, e, p, n, ar, ix, bk, sp, vs, state, code, a, b);
+        return drive_cache::act(guests, epochs, levels, values, state, code, a, b);
     }
-    batch(k, f, e, p, n, ar, ix, bk, sp, vs, items, state, code, a, b)
+    batch(guests, epochs, levels, values, items, state, code, a, b)
 }
 
-// One record: its line is written from a place on, where the buffer has room for the longest line.
+// One record: its line is written from a place on, where the buffer has room for the longest line. The answer is the place after it.
 pub fn step(
-    k: &mut [u64],
-    f: &mut [u64],
-    e: &mut [u64],
-    p: &mut [u64],
-    n: &mut [u64],
-    ar: &mut [u64],
-    ix: &mut [u64],
-    bk: &mut [u64],
-    sp: &mut [u64],
-    vs: &mut [u64],
+    guests: &mut Guests<&mut [u64]>,
+    epochs: &mut [u64],
+    levels: &mut Levels<&mut [u64]>,
+    values: &mut [u64],
     items: &mut [u64],
-    state: State,
+    state: &mut State,
     code: u8,
     a: u64,
     b: u64,
     out: &mut [u8],
     at: usize,
-) -> Stepped
+) -> usize
     requires { (length items.old ≡ LIMIT) × (at + WALK ≤ length out.old) }
-    ensures { DriveSteps code a b
-        (lent k.old f.old e.old p.old n.old ar.old ix.old bk.old sp.old vs.old) state out.old at
-        (lent k.new f.new e.new p.new n.new ar.new ix.new bk.new sp.new vs.new) result.state out.new result.at }
+    ensures same { Same guests.old guests.new levels.old levels.new }
+    ensures does { DriveSteps code a b
+        (lent guests.old epochs.old levels.old values.old) state.old out.old at
+        (lent guests.new epochs.new levels.new values.new) state.new out.new result }
 {
     if code == 20 {
-        return Stepped {
-            at: walk(k, f, e, p, n, ar, ix, bk, sp, state, a, out, at),
-            state: state,
-        };
+        return walk(
+            &guests.shown(),
+            &epochs[..],
+            &levels.shown(),
+            *state,
+            a,
+            out,
+            at,
+        );
     }
-    let driven = act(k, f, e, p, n, ar, ix, bk, sp, vs, items, state, code, a, b);
-    let told = driven.told;
-    let after = driven.state;
-    Stepped {
-        at: write(out, at, told),
-        state: after,
-    }
+    let told = act(guests, epochs, levels, values, items, state, code, a, b);
+    write(out, at, told)
 }

@@ -2,16 +2,16 @@
 -- them from the start; so the loop has only to know what is left.
 use mathlib.Core.Path.{◌≡◌, refl, sym, ap, ◌∙◌, subst}
 use mathlib.Core.List.{List, [], ◌∷◌, append-nil}
+use Rattle.std.proofs.Common.{Option, Some, None, Result, Ok, Err}
 use Prim.Native.Nat.{ℕ, ◌+◌, ◌*◌, ◌≤◌, ◌<◌, ◌-◌}
 use native.Mathlib.Nat.{add-zero}
 use native.Mathlib.Omega.{arith}
 use lib.ListN.{length, get_or}
 use Rattle.numbers.specs.Marks.{LIMIT}
+use Rattle.numbers.specs.declared.Refusal.{Refusal}
 use Rattle.numbers.specs.declared.Slot.{Slot}
 use Rattle.lists.specs.Lists.{All}
 use Rattle.ledger.specs.Ledger.{Item}
-use Rattle.answers.specs.declared.Reached.{Reached}
-use Rattle.answers.specs.declared.Reached.TheVariants.{At}
 use Rattle.frequency_buckets_walker.specs.declared.Stand.{Stand}
 use Rattle.frequency_buckets_walker.specs.Walks.{Linked, Onward, Shows}
 use Rattle.trace.specs.Lines.{DIGITS, spaced}
@@ -40,8 +40,26 @@ module _ (k e n : List ℕ) (h : Listable k e n) where
 
 -- Where nothing is left
 
+-- an answer that is no slot
+stood : Result (Option Slot) Refusal → ℕ
+stood (Ok (Some x)) = 1
+stood (Ok None) = 0
+stood (Err w) = 0
+
+pub no_more : (a : Result (Option Slot) Refusal) (o : Option Slot) → a ≡ Ok o → o ≡ None → (x : Slot) → a ≡ Ok (Some x) → ⊥
+unfolding stood
+no_more a o is none x e = let c : ◌≡◌ {A = ℕ} 0 1 = ap stood (sym (is ∙ ap Ok none) ∙ e) in absurd (omega arith)
+
+pub was_refused : (a : Result (Option Slot) Refusal) (w : Refusal) → a ≡ Err w → (x : Slot) → a ≡ Ok (Some x) → ⊥
+unfolding stood
+was_refused a w is x e = let c : ◌≡◌ {A = ℕ} 0 1 = ap stood (sym is ∙ e) in absurd (omega arith)
+
+-- an answer that is one
+pub slot_told : (a b : Result (Option Slot) Refusal) (o : Option Slot) (x : Slot) → a ≡ b → a ≡ Ok o → o ≡ Some x → b ≡ Ok (Some x)
+slot_told a b o x told is some = sym told ∙ is ∙ ap Ok some
+
 -- the reader has answered no slot
-pub none_left : (n : List ℕ) (st : Stand) (a : Reached) → a ≡ st.answer → ((x : Slot) → a ≡ At x → ⊥) → (ys : List Item) → Shows n st ys → ys ≡ []
+pub none_left : (n : List ℕ) (st : Stand) (a : Result (Option Slot) Refusal) → a ≡ st.answer → ((x : Slot) → a ≡ Ok (Some x) → ⊥) → (ys : List Item) → Shows n st ys → ys ≡ []
 none_left n st a q t [] h = refl
 none_left n st a q t (y ∷ ys) h = absurd (t _ (q ∙ h.0))
 
@@ -86,7 +104,7 @@ module _ (k e n : List ℕ) (first : Stand) (out₀ : List ℕ) (at : ℕ) where
         (record { next = sym (add-zero end); written = sym (append-nil _) }));
   }
 
-  module _ (out : List ℕ) (st : Stand) (end left : ℕ) (x : Slot) (here : At x ≡ st.answer)
+  module _ (out : List ℕ) (st : Stand) (end left : ℕ) (x : Slot) (here : Ok (Some x) ≡ st.answer)
       (out' : List ℕ) (end' : ℕ) (wrote : Spells out end (item_text x.0 (get_or k x.0 0) (get_or e x.0 0)) ITEM out' end')
       (st' : Stand) (stepped : Onward n st st') (some : 0 < left) where
     go_on : (xs ys : List Item) → Shows n st ys → All (Says k e) ys → length ys ≤ left →

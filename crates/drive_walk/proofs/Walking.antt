@@ -3,13 +3,16 @@
 use mathlib.Core.Path.{◌≡◌, refl, sym, ap, ◌∙◌, subst}
 use mathlib.Core.Bool.{false}
 use mathlib.Core.List.{List, [], ◌∷◌, ◌++◌}
+use Rattle.std.proofs.Common.{Option, Result, Ok, Err}
+use Rattle.std.specs.Result.{is_err}
 use Prim.Native.Nat.{ℕ, ◌+◌, ◌*◌, ◌≤◌, ◌<◌}
 use native.Mathlib.Omega.{arith}
 use lib.ListN.{length}
 use Rattle.numbers.specs.Marks.{LIMIT}
-use Rattle.numbers.specs.Answer.{number_of}
-use Rattle.numbers.specs.declared.Answer.{Answer}
-use Rattle.numbers.specs.declared.Answer.TheVariants.{Done, Corrupt, Short, Capacity}
+use Rattle.numbers.specs.Answer.{DONE}
+use Rattle.numbers.specs.declared.Refusal.{Refusal}
+use Rattle.numbers.specs.declared.Slot.{Slot}
+use Rattle.numbers.specs.declared.Refusal.TheVariants.{Corrupt, Short, Capacity}
 use Rattle.lists.specs.Lists.{All, In}
 use Rattle.lists.proofs.Tests.{if_eq}
 use Rattle.lists.proofs.Members.{in_all}
@@ -23,18 +26,16 @@ use Rattle.buckets_tables.specs.declared.State.{State}
 use Rattle.buckets_tables.specs.Tables.{Tables, tables}
 use Rattle.buckets_tables.specs.Lent.{buckets}
 use Rattle.buckets_tables.proofs.Found.{Stands, stands}
-use Rattle.answers.specs.declared.Reached.{Reached}
-use Rattle.answers.specs.declared.Reached.TheVariants.{At, NoMore, Refused}
 use Rattle.answers.specs.Replies.{reached_reply}
+use Rattle.buckets_walk.specs.Walks.{slot_of}
 use Rattle.frequency_buckets_walker.specs.declared.Stand.{Stand}
-use Rattle.frequency_buckets_walker.specs.Stands.{is_refused}
 use Rattle.frequency_buckets_walker.specs.Walks.{shows, Starts, Shows}
-use Rattle.frequency_buckets_walker.proofs.Places.{told, stands_held}
+use Rattle.frequency_buckets_walker.proofs.Places.{stands_held}
 use Rattle.frequency_buckets_walker.proofs.Shown.{walker_shows}
 use Rattle.trace.specs.Lines.{DIGITS, FEED, decimal}
 use Rattle.trace.specs.Written.{Writes, Spells}
 use Rattle.trace.proofs.Writing.{spells_then, spelled, spells_more}
-use Rattle.drive_lines.specs.declared.Told.TheVariants.{Alone}
+use Rattle.drive_lines.specs.declared.Told.TheVariants.{Refused}
 use Rattle.drive_lines.specs.Lines.{text, LONGEST_TOLD}
 use Rattle.drive_walk.specs.Walk.{items_text, ITEM, WALK, Listable, Placed, Says, Lists, WalkPrints}
 
@@ -55,23 +56,22 @@ list_short g (l ∷ ls) =
 -- Refusals
 
 -- the answers that are none
-unrefused : (a : Reached) → ((w : Answer) → a ≡ Refused w → ⊥) → is_refused a ≡ false
-unrefused (At x) h = refl
-unrefused NoMore h = refl
-unrefused (Refused w) h = absurd (h w refl)
+unrefused : (a : Result (Option Slot) Refusal) → ((w : Refusal) → a ≡ Err w → ⊥) → is_err a ≡ false
+unrefused (Ok x) h = refl
+unrefused (Err w) h = absurd (h w refl)
 
 -- no list begins with one
-head_unrefused : (xs : List Item) (w : Answer) → reached_reply (told (head xs)) ≡ refused w → ⊥
+head_unrefused : (xs : List Item) (w : Refusal) → reached_reply (slot_of (head xs)) ≡ refused w → ⊥
 head_unrefused [] w q = let c : ◌≡◌ {A = ℕ} 0 1 = cc in omega arith
 head_unrefused (x ∷ xs) w q = let c : ◌≡◌ {A = ℕ} 0 1 = cc in omega arith
 
-module _ (t : Tables) (s : State) (g : ℕ) (first : Stand) (w : Answer) (is : reached_reply first.answer ≡ refused w) (out : List ℕ) (at : ℕ) (out' : List ℕ) (r : ℕ) where
-  alone : Spells out at (text (Alone w)) LONGEST_TOLD out' r → (v : Answer) → reached_reply first.answer ≡ refused v → Spells out at (text (Alone v)) WALK out' r
+module _ (t : Tables) (s : State) (g : ℕ) (first : Stand) (w : Refusal) (is : reached_reply first.answer ≡ refused w) (out : List ℕ) (at : ℕ) (out' : List ℕ) (r : ℕ) where
+  alone : Spells out at (text (Refused w)) LONGEST_TOLD out' r → (v : Refusal) → reached_reply first.answer ≡ refused v → Spells out at (text (Refused v)) WALK out' r
   alone wrote v q =
       let same : w ≡ v = cc in
-      subst (λ (z : Answer). Spells out at (text (Alone z)) WALK out' r) same (spells_more out at (text (Alone w)) out' r LONGEST_TOLD WALK (omega arith) wrote)
+      subst (λ (z : Refusal). Spells out at (text (Refused z)) WALK out' r) same (spells_more out at (text (Refused w)) out' r LONGEST_TOLD WALK (omega arith) wrote)
 
-  pub refuses : Starts t s g first → Spells out at (text (Alone w)) LONGEST_TOLD out' r → WalkPrints g t s out at out' r
+  pub refuses : Starts t s g first → Spells out at (text (Refused w)) LONGEST_TOLD out' r → WalkPrints g t s out at out' r
   unfolding start
   refuses starts wrote = go starts.promised
     where
@@ -99,10 +99,10 @@ module _ (k f e p n a i b sp : List ℕ) (s : State) (g : ℕ) (first : Stand) w
     pub listed : (out : List ℕ) (at : ℕ) (out' : List ℕ) (r : ℕ) → Lists k e n first out at out' r →
         Spells out at (items_text (list_of g held.levels)) (LIMIT * ITEM) out' r
 
-  pub found : Starts (tables k f e p n a i b sp) s g first → (q : Reached) → q ≡ first.answer → ((w : Answer) → q ≡ Refused w → ⊥) → Found
+  pub found : Starts (tables k f e p n a i b sp) s g first → (q : Result (Option Slot) Refusal) → q ≡ first.answer → ((w : Refusal) → q ≡ Err w → ⊥) → Found
   found starts q is unsaid =
       let t = tables k f e p n a i b sp in
-      let w = stands_held t s (start g) first (sym (ap is_refused is) ∙ unrefused q unsaid) starts in
+      let w = stands_held t s (start g) first (sym (ap is_err is) ∙ unrefused q unsaid) starts in
       let l = w.0 in
       let h = w.1.2 in
       let xs = list_of g l.levels in
@@ -122,9 +122,9 @@ module _ (k f e p n a i b sp : List ℕ) (s : State) (g : ℕ) (first : Stand) w
         };
       }
 
-  pub printed : Found → (out : List ℕ) (at : ℕ) (b₁ : List ℕ) (j₁ : ℕ) (b₂ : List ℕ) (j₂ : ℕ) (out' : List ℕ) (r : ℕ) → Spells out at (decimal (number_of Done)) DIGITS b₁ j₁ →
+  pub printed : Found → (out : List ℕ) (at : ℕ) (b₁ : List ℕ) (j₁ : ℕ) (b₂ : List ℕ) (j₂ : ℕ) (out' : List ℕ) (r : ℕ) → Spells out at (decimal DONE) DIGITS b₁ j₁ →
       Lists k e n first b₁ j₁ b₂ j₂ → Writes b₂ j₂ (FEED ∷ []) out' r → WalkPrints g (tables k f e p n a i b sp) s out at out' r
   printed w out at b₁ j₁ b₂ j₂ out' r zero list feed =
       let xs = items_text (list_of g w.held.levels) in
       let rest = spells_then b₁ j₁ xs b₂ j₂ (FEED ∷ []) out' r (LIMIT * ITEM) 1 (w.listed b₁ j₁ b₂ j₂ list) (spelled b₂ j₂ (FEED ∷ []) out' r 1 (omega arith) feed) in
-      (ledger w.held, w.reads, spells_then out at (decimal (number_of Done)) b₁ j₁ (xs ++ (FEED ∷ [])) out' r DIGITS (LIMIT * ITEM + 1) zero rest)
+      (ledger w.held, w.reads, spells_then out at (decimal DONE) b₁ j₁ (xs ++ (FEED ∷ [])) out' r DIGITS (LIMIT * ITEM + 1) zero rest)

@@ -1,9 +1,9 @@
 -- What the walk of a frequency prints: the number of a refusal alone, or 0 and the ledger's list of the frequency, head first, each item as
 -- ` slot:key:epoch`.
-use Rattle.std.specs.Prelude.{◌≡◌, List, [], ◌∷◌, ◌++◌, ℕ, ◌+◌, ◌*◌, ◌≤◌, ◌<◌, length, get_or}
+use Rattle.std.specs.Prelude.{◌≡◌, List, [], ◌∷◌, ◌++◌, ℕ, ◌+◌, ◌*◌, ◌≤◌, ◌<◌, length, get_or, Option, Some, Ok}
 use Rattle.numbers.specs.Marks.{LIMIT}
-use Rattle.numbers.specs.Answer.{number_of}
-use Rattle.numbers.specs.declared.Answer.TheVariants.{Done, Corrupt, Short, Capacity}
+use Rattle.numbers.specs.Answer.{DONE}
+use Rattle.numbers.specs.declared.Refusal.TheVariants.{Corrupt, Short, Capacity}
 use Rattle.numbers.specs.declared.Slot.{Slot}
 use Rattle.lists.specs.Lists.{All}
 use Rattle.ledger.specs.Ledger.{Item}
@@ -13,7 +13,6 @@ use Rattle.promise.specs.Promise.{Sound, Reading, over, short, corrupt, ledger, 
 use Rattle.buckets_tables.specs.declared.State.{State}
 use Rattle.buckets_tables.specs.Tables.{Tables, tables}
 use Rattle.buckets_tables.specs.Lent.{buckets}
-use Rattle.answers.specs.declared.Reached.TheVariants.{At}
 use Rattle.frequency_buckets_walker.specs.declared.Stand.{Stand}
 use Rattle.frequency_buckets_walker.specs.Walks.{Shows}
 use Rattle.trace.specs.Lines.{DIGITS, FEED, decimal, spaced}
@@ -41,7 +40,7 @@ abbrev pub walk_text : (frequency : ℕ) → Reading buckets → List ℕ
 walk_text g over = reply_text (refused Capacity)
 walk_text g short = reply_text (refused Short)
 walk_text g corrupt = reply_text (refused Corrupt)
-walk_text g (ledger l) = decimal (number_of Done) ++ (items_text (list_of g l.levels) ++ (FEED ∷ []))
+walk_text g (ledger l) = decimal (DONE) ++ (items_text (list_of g l.levels) ++ (FEED ∷ []))
 
 -- room for an item, and for a line of as many as there are slots at most
 abbrev pub ITEM : ℕ
@@ -58,7 +57,7 @@ Listable k e n = (f : List ℕ) × (p : List ℕ) × (a : List ℕ) × (i : List
 
 -- a slot that the reader has answered has a place in the table of keys
 abbrev pub Placed : List ℕ → Stand → Type 0
-Placed k r = (x : Slot) → r.answer ≡ At x → x.0 < length k
+Placed k r = (x : Slot) → r.answer ≡ Ok (Some x) → x.0 < length k
 
 -- the tables say an item's key and epoch at its slot
 abbrev pub Says : (k e : List ℕ) → Item → Type 0

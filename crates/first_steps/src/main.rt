@@ -2,64 +2,75 @@
 // slot is told. docs/DEVICE.md walks through it.
 #![tactic(auto)]
 
-use answers::Least;
-use drive_lines::least;
+use buckets_tables::{GuestTables, Guests};
 use drive_lines::sound::write;
+use drive_lines::tell;
 use frequency_buckets::{insert, pop_min, touch};
 use frequency_buckets_make::new;
-use numbers::{Frequency, Key};
+use levels::Levels;
+use numbers::{Frequency, Key, Refusal};
 
-// Who goes: the tables are keys, freqs, epochs, prevs, nexts, arena, index, buckets and spares, as in every signature.
+// Who goes, of guest 7, which is hit, and guest 9.
 fn leaves(
-    k: &mut [u64],
-    f: &mut [u64],
-    e: &mut [u64],
-    p: &mut [u64],
-    n: &mut [u64],
-    a: &mut [u64],
-    i: &mut [u64],
-    b: &mut [u64],
-    s: &mut [u64],
-) -> Least {
-    let made = new(k, f, e, p, n, a, i, b, s, 4);
-    let one = insert(k, f, e, p, n, a, i, b, s, made.state, Key(7));
-    let two = insert(k, f, e, p, n, a, i, b, s, one.state, Key(9));
-    let hit = touch(
-        k,
-        f,
-        e,
-        p,
-        n,
-        a,
-        i,
-        b,
-        s,
-        two.state,
+    guests: &mut Guests<&mut [u64]>,
+    epochs: &mut [u64],
+    freqs: &mut [u64],
+    prevs: &mut [u64],
+    nexts: &mut [u64],
+    buckets: &mut [u64],
+    spares: &mut [u64],
+) -> Result<(Key, Frequency), Refusal> {
+    let mut state = new(guests, epochs, freqs, prevs, nexts, &buckets[..], spares, 4)?;
+    let levels = &mut Levels {
+        freqs,
+        prevs,
+        nexts,
+        buckets,
+        spares,
+    };
+    insert(guests, epochs, levels, &mut state, Key(7))?;
+    insert(guests, epochs, levels, &mut state, Key(9))?;
+    touch(
+        &guests.shown(),
+        epochs,
+        levels,
+        &mut state,
         Key(7),
         Frequency::CEILING,
-    );
-    let out = pop_min(k, f, e, p, n, a, i, b, s, hit.state);
-    out.answer
+    )?;
+    pop_min(guests, epochs, levels, &mut state)
 }
 
 // Prints an answer: document 01's number, then the key and its frequency.
-fn say(answer: Least) {
+fn say(answer: Result<(Key, Frequency), Refusal>) {
+    // An array and a length: there is no heap.
     let mut line = [0u8; 128];
-    let end = write(&mut line, 0, least(answer));
+    let end = write(&mut line, 0, tell(answer));
     io::write_all(1, &line[..end]);
 }
 
 fn main() {
-    let mut k = [0u64; 4];
-    let mut f = [0u64; 4];
-    let mut e = [0u64; 4];
-    let mut p = [0u64; 4];
-    let mut n = [0u64; 4];
-    let mut a = [0u64; 4];
-    let mut i = [0u64; 8];
-    let mut b = [0u64; 28];
-    let mut s = [0u64; 4];
+    let mut keys = [0u64; 4];
+    let mut arena = [0u64; 4];
+    let mut index = [0u64; 8];
+    let mut epochs = [0u64; 4];
+    let mut freqs = [0u64; 4];
+    let mut prevs = [0u64; 4];
+    let mut nexts = [0u64; 4];
+    let mut buckets = [0u64; 28];
+    let mut spares = [0u64; 4];
+    let mut guests = Guests {
+        keys: &mut keys[..],
+        arena: &mut arena[..],
+        index: &mut index[..],
+    };
     say(leaves(
-        &mut k, &mut f, &mut e, &mut p, &mut n, &mut a, &mut i, &mut b, &mut s,
+        &mut guests,
+        &mut epochs,
+        &mut freqs,
+        &mut prevs,
+        &mut nexts,
+        &mut buckets,
+        &mut spares,
     ));
 }

@@ -4,174 +4,81 @@
 
 ghost use Rattle.ledger.specs.BucketCalls as ledger;
 ghost use Rattle.promise.specs.Promise.{Makes};
-ghost use Rattle.buckets_tables.specs.Slices.{lent};
+ghost use Rattle.levels.specs.Slices.{SameLevels};
+ghost use Rattle.buckets_tables.specs.Slices.{counted, lent, Same};
 ghost use Rattle.buckets_tables.specs.Lent as kind;
 ghost use Rattle.answers.specs.Replies.{level_reply, least_reply, plain_reply};
 
-use answers::{Least, Level, Leveled, Popped, Stored};
-use buckets_tables::State;
-use numbers::{Frequency, Key};
+use buckets_calls::sound;
+use buckets_check::check;
+use buckets_tables::{Guests, State};
+use levels::Levels;
+use numbers::{Frequency, Key, Refusal};
 
 // Binds an absent key at frequency 1, in the first free slot.
 pub fn insert(
-    keys: &mut [u64],
-    freqs: &mut [u64],
+    guests: &mut Guests<&mut [u64]>,
     epochs: &mut [u64],
-    prevs: &mut [u64],
-    nexts: &mut [u64],
-    arena: &mut [u64],
-    index: &mut [u64],
-    buckets: &mut [u64],
-    spares: &mut [u64],
-    state: State,
+    levels: &mut Levels<&mut [u64]>,
+    state: &mut State,
     key: Key,
-) -> Stored
-    ensures { Makes kind.buckets (ledger.Insert key.0)
-        (lent keys.old freqs.old epochs.old prevs.old nexts.old arena.old index.old buckets.old spares.old) state (plain_reply result.answer)
-        (lent keys.new freqs.new epochs.new prevs.new nexts.new arena.new index.new buckets.new spares.new) result.state }
+) -> Result<(), Refusal>
+    ensures same { Same guests.old guests.new levels.old levels.new }
+    ensures does { Makes kind.buckets (ledger.Insert key.0)
+        (lent guests.old epochs.old levels.old) state.old (plain_reply result)
+        (lent guests.new epochs.new levels.new) state.new }
 {
-    let why = buckets_check::refusal(
-        &keys[..],
-        &freqs[..],
-        &epochs[..],
-        &prevs[..],
-        &nexts[..],
-        &arena[..],
-        &index[..],
-        &buckets[..],
-        &spares[..],
-        state,
-    );
-    if why.is_done() {
-        return buckets_calls::sound::insert(
-            keys, freqs, epochs, prevs, nexts, arena, index, buckets, spares, state, key,
-        );
-    }
-    Stored {
-        answer: why,
-        state: state,
-    }
+    check(guests, &epochs[..], levels, *state)?;
+    sound::insert(guests, epochs, levels, state, key)
 }
 
 // Hits a bound key up to a cap, of which 0 is read as 1; the answer is its new frequency. The cap of a plain touch is the ceiling.
 pub fn touch(
-    keys: &[u64],
-    freqs: &mut [u64],
+    guests: &Guests<&[u64]>,
     epochs: &mut [u64],
-    prevs: &mut [u64],
-    nexts: &mut [u64],
-    arena: &[u64],
-    index: &[u64],
-    buckets: &mut [u64],
-    spares: &mut [u64],
-    state: State,
+    levels: &mut Levels<&mut [u64]>,
+    state: &mut State,
     key: Key,
     cap: Frequency,
-) -> Leveled
-    ensures { Makes kind.buckets (ledger.Touch cap.0 key.0)
-        (lent keys.now freqs.old epochs.old prevs.old nexts.old arena.now index.now buckets.old spares.old) state (level_reply result.answer)
-        (lent keys.now freqs.new epochs.new prevs.new nexts.new arena.now index.now buckets.new spares.new) result.state }
+) -> Result<Frequency, Refusal>
+    ensures same { SameLevels levels.old levels.new }
+    ensures does { Makes kind.buckets (ledger.Touch cap.0 key.0)
+        (counted guests.now epochs.old levels.old) state.old (level_reply result)
+        (counted guests.now epochs.new levels.new) state.new }
 {
-    let why = buckets_check::refusal(
-        keys,
-        &freqs[..],
-        &epochs[..],
-        &prevs[..],
-        &nexts[..],
-        arena,
-        index,
-        &buckets[..],
-        &spares[..],
-        state,
-    );
-    if why.is_done() {
-        return buckets_calls::sound::touch(
-            keys, freqs, epochs, prevs, nexts, index, buckets, spares, state, key, cap,
-        );
-    }
-    Leveled {
-        answer: Level::Refused(why),
-        state: state,
-    }
+    check(guests, &epochs[..], levels, *state)?;
+    sound::touch(guests.keys, guests.index, epochs, levels, state, key, cap)
 }
 
 // Lets go a bound key; the answer is its frequency.
 pub fn remove(
-    keys: &mut [u64],
-    freqs: &mut [u64],
+    guests: &mut Guests<&mut [u64]>,
     epochs: &mut [u64],
-    prevs: &mut [u64],
-    nexts: &mut [u64],
-    arena: &mut [u64],
-    index: &mut [u64],
-    buckets: &mut [u64],
-    spares: &mut [u64],
-    state: State,
+    levels: &mut Levels<&mut [u64]>,
+    state: &mut State,
     key: Key,
-) -> Leveled
-    ensures { Makes kind.buckets (ledger.Remove key.0)
-        (lent keys.old freqs.old epochs.old prevs.old nexts.old arena.old index.old buckets.old spares.old) state (level_reply result.answer)
-        (lent keys.new freqs.new epochs.new prevs.new nexts.new arena.new index.new buckets.new spares.new) result.state }
+) -> Result<Frequency, Refusal>
+    ensures same { Same guests.old guests.new levels.old levels.new }
+    ensures does { Makes kind.buckets (ledger.Remove key.0)
+        (lent guests.old epochs.old levels.old) state.old (level_reply result)
+        (lent guests.new epochs.new levels.new) state.new }
 {
-    let why = buckets_check::refusal(
-        &keys[..],
-        &freqs[..],
-        &epochs[..],
-        &prevs[..],
-        &nexts[..],
-        &arena[..],
-        &index[..],
-        &buckets[..],
-        &spares[..],
-        state,
-    );
-    if why.is_done() {
-        return buckets_calls::sound::remove(
-            keys, freqs, epochs, prevs, nexts, arena, index, buckets, spares, state, key,
-        );
-    }
-    Leveled {
-        answer: Level::Refused(why),
-        state: state,
-    }
+    check(guests, &epochs[..], levels, *state)?;
+    sound::remove(guests, epochs, levels, state, key)
 }
 
 // Lets go the key at the tail of the lowest list.
 pub fn pop_min(
-    keys: &mut [u64],
-    freqs: &mut [u64],
+    guests: &mut Guests<&mut [u64]>,
     epochs: &mut [u64],
-    prevs: &mut [u64],
-    nexts: &mut [u64],
-    arena: &mut [u64],
-    index: &mut [u64],
-    buckets: &mut [u64],
-    spares: &mut [u64],
-    state: State,
-) -> Popped
-    ensures { Makes kind.buckets ledger.PopMin
-        (lent keys.old freqs.old epochs.old prevs.old nexts.old arena.old index.old buckets.old spares.old) state (least_reply result.answer)
-        (lent keys.new freqs.new epochs.new prevs.new nexts.new arena.new index.new buckets.new spares.new) result.state }
+    levels: &mut Levels<&mut [u64]>,
+    state: &mut State,
+) -> Result<(Key, Frequency), Refusal>
+    ensures same { Same guests.old guests.new levels.old levels.new }
+    ensures does { Makes kind.buckets ledger.PopMin
+        (lent guests.old epochs.old levels.old) state.old (least_reply result)
+        (lent guests.new epochs.new levels.new) state.new }
 {
-    let why = buckets_check::refusal(
-        &keys[..],
-        &freqs[..],
-        &epochs[..],
-        &prevs[..],
-        &nexts[..],
-        &arena[..],
-        &index[..],
-        &buckets[..],
-        &spares[..],
-        state,
-    );
-    if why.is_done() {
-        return buckets_calls::sound::pop_min(
-            keys, freqs, epochs, prevs, nexts, arena, index, buckets, spares, state,
-        );
-    }
-    Popped {
-        answer: Least::Refused(why),
-        state: state,
-    }
+    check(guests, &epochs[..], levels, *state)?;
+    sound::pop_min(guests, epochs, levels, state)
 }

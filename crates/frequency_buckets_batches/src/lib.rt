@@ -3,147 +3,64 @@
 
 ghost use Rattle.ledger.specs.BucketCalls as ledger;
 ghost use Rattle.promise.specs.Promise.{Makes};
-ghost use Rattle.buckets_tables.specs.Slices.{lent};
+ghost use Rattle.levels.specs.Slices.{SameLevels};
+ghost use Rattle.buckets_tables.specs.Slices.{counted, lent, Same};
 ghost use Rattle.buckets_tables.specs.Lent as kind;
-ghost use Rattle.answers.specs.Replies.{count_reply};
+ghost use Rattle.answers.specs.Replies.{number_reply};
 
-use answers::{Count, Counted};
-use buckets_tables::State;
+use buckets_batches::sound;
+use buckets_check::check;
+use buckets_tables::{Guests, State};
+use levels::Levels;
+use numbers::Refusal;
 
 // Binds each key that is absent, while there are free slots; the answer is how many were bound.
 pub fn insert_batch(
-    keys: &mut [u64],
-    freqs: &mut [u64],
+    guests: &mut Guests<&mut [u64]>,
     epochs: &mut [u64],
-    prevs: &mut [u64],
-    nexts: &mut [u64],
-    arena: &mut [u64],
-    index: &mut [u64],
-    buckets: &mut [u64],
-    spares: &mut [u64],
-    state: State,
+    levels: &mut Levels<&mut [u64]>,
+    state: &mut State,
     items: &[u64],
-) -> Counted
-    ensures { Makes kind.buckets (ledger.InsertBatch items.now)
-        (lent keys.old freqs.old epochs.old prevs.old nexts.old arena.old index.old buckets.old spares.old) state (count_reply result.answer)
-        (lent keys.new freqs.new epochs.new prevs.new nexts.new arena.new index.new buckets.new spares.new) result.state }
+) -> Result<u64, Refusal>
+    ensures same { Same guests.old guests.new levels.old levels.new }
+    ensures does { Makes kind.buckets (ledger.InsertBatch items.now)
+        (lent guests.old epochs.old levels.old) state.old (number_reply result)
+        (lent guests.new epochs.new levels.new) state.new }
 {
-    let why = buckets_check::refusal(
-        &keys[..],
-        &freqs[..],
-        &epochs[..],
-        &prevs[..],
-        &nexts[..],
-        &arena[..],
-        &index[..],
-        &buckets[..],
-        &spares[..],
-        state,
-    );
-    if why.is_done() {
-        let bound = buckets_batches::sound::insert_batch(
-            keys, freqs, epochs, prevs, nexts, arena, index, buckets, spares, state, items,
-        );
-        let after = bound.state;
-        return Counted {
-            answer: Count::Is(bound.done),
-            state: after,
-        };
-    }
-    Counted {
-        answer: Count::Refused(why),
-        state: state,
-    }
+    check(guests, &epochs[..], levels, *state)?;
+    Ok(sound::insert_batch(guests, epochs, levels, state, items))
 }
 
 // Hits each key that is bound; the answer is how many were hit.
 pub fn touch_batch(
-    keys: &[u64],
-    freqs: &mut [u64],
+    guests: &Guests<&[u64]>,
     epochs: &mut [u64],
-    prevs: &mut [u64],
-    nexts: &mut [u64],
-    arena: &[u64],
-    index: &[u64],
-    buckets: &mut [u64],
-    spares: &mut [u64],
-    state: State,
+    levels: &mut Levels<&mut [u64]>,
+    state: &mut State,
     items: &[u64],
-) -> Counted
-    ensures { Makes kind.buckets (ledger.TouchBatch items.now)
-        (lent keys.now freqs.old epochs.old prevs.old nexts.old arena.now index.now buckets.old spares.old) state (count_reply result.answer)
-        (lent keys.now freqs.new epochs.new prevs.new nexts.new arena.now index.now buckets.new spares.new) result.state }
+) -> Result<u64, Refusal>
+    ensures same { SameLevels levels.old levels.new }
+    ensures does { Makes kind.buckets (ledger.TouchBatch items.now)
+        (counted guests.now epochs.old levels.old) state.old (number_reply result)
+        (counted guests.now epochs.new levels.new) state.new }
 {
-    let why = buckets_check::refusal(
-        keys,
-        &freqs[..],
-        &epochs[..],
-        &prevs[..],
-        &nexts[..],
-        arena,
-        index,
-        &buckets[..],
-        &spares[..],
-        state,
-    );
-    if why.is_done() {
-        let hit = buckets_batches::sound::touch_batch(
-            keys, freqs, epochs, prevs, nexts, index, buckets, spares, state, items,
-        );
-        let after = hit.state;
-        return Counted {
-            answer: Count::Is(hit.done),
-            state: after,
-        };
-    }
-    Counted {
-        answer: Count::Refused(why),
-        state: state,
-    }
+    check(guests, &epochs[..], levels, *state)?;
+    Ok(sound::touch_batch(guests.keys, guests.index, epochs, levels, state, items))
 }
 
 // Lets go each key that is bound; the answer is how many were let go.
 pub fn remove_batch(
-    keys: &mut [u64],
-    freqs: &mut [u64],
+    guests: &mut Guests<&mut [u64]>,
     epochs: &mut [u64],
-    prevs: &mut [u64],
-    nexts: &mut [u64],
-    arena: &mut [u64],
-    index: &mut [u64],
-    buckets: &mut [u64],
-    spares: &mut [u64],
-    state: State,
+    levels: &mut Levels<&mut [u64]>,
+    state: &mut State,
     items: &[u64],
-) -> Counted
-    ensures { Makes kind.buckets (ledger.RemoveBatch items.now)
-        (lent keys.old freqs.old epochs.old prevs.old nexts.old arena.old index.old buckets.old spares.old) state (count_reply result.answer)
-        (lent keys.new freqs.new epochs.new prevs.new nexts.new arena.new index.new buckets.new spares.new) result.state }
+) -> Result<u64, Refusal>
+    ensures same { Same guests.old guests.new levels.old levels.new }
+    ensures does { Makes kind.buckets (ledger.RemoveBatch items.now)
+        (lent guests.old epochs.old levels.old) state.old (number_reply result)
+        (lent guests.new epochs.new levels.new) state.new }
 {
-    let why = buckets_check::refusal(
-        &keys[..],
-        &freqs[..],
-        &epochs[..],
-        &prevs[..],
-        &nexts[..],
-        &arena[..],
-        &index[..],
-        &buckets[..],
-        &spares[..],
-        state,
-    );
-    if why.is_done() {
-        let gone = buckets_batches::sound::remove_batch(
-            keys, freqs, epochs, prevs, nexts, arena, index, buckets, spares, state, items,
-        );
-        let after = gone.state;
-        return Counted {
-            answer: Count::Is(gone.done),
-            state: after,
-        };
-    }
-    Counted {
-        answer: Count::Refused(why),
-        state: state,
-    }
+    check(guests, &epochs[..], levels, *state)?;
+    Ok(sound::remove_batch(guests, epochs, levels, state, items))
 }

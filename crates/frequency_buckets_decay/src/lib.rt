@@ -2,145 +2,65 @@
 // them are lent for reading only.
 #![tactic(auto)]
 
-ghost use Rattle.ledger.specs.BucketCalls as calls;
+ghost use Rattle.ledger.specs.BucketCalls as ledger;
 ghost use Rattle.promise.specs.Promise.{Makes};
-ghost use Rattle.buckets_tables.specs.Slices.{lent};
+ghost use Rattle.levels.specs.Slices.{SameLevels};
+ghost use Rattle.buckets_tables.specs.Slices.{counted};
 ghost use Rattle.buckets_tables.specs.Lent as kind;
 ghost use Rattle.answers.specs.Replies.{plain_reply};
 
-use answers::Stored;
-use buckets_tables::State;
-use numbers::Answer;
+use buckets_check::check;
+use buckets_regroup::sound;
+use buckets_tables::{Guests, State};
+use levels::Levels;
+use numbers::Refusal;
 
 // Halves every frequency, but to no less than 1.
 pub fn decay_halve(
-    keys: &[u64],
-    freqs: &mut [u64],
+    guests: &Guests<&[u64]>,
     epochs: &[u64],
-    prevs: &mut [u64],
-    nexts: &mut [u64],
-    arena: &[u64],
-    index: &[u64],
-    buckets: &mut [u64],
-    spares: &mut [u64],
-    state: State,
-) -> Stored
-    ensures { Makes kind.buckets calls.DecayHalve
-        (lent keys.now freqs.old epochs.now prevs.old nexts.old arena.now index.now buckets.old spares.old) state (plain_reply result.answer)
-        (lent keys.now freqs.new epochs.now prevs.new nexts.new arena.now index.now buckets.new spares.new) result.state }
+    levels: &mut Levels<&mut [u64]>,
+    state: &mut State,
+) -> Result<(), Refusal>
+    ensures same { SameLevels levels.old levels.new }
+    ensures does { Makes kind.buckets ledger.DecayHalve
+        (counted guests.now epochs.now levels.old) state.old (plain_reply result)
+        (counted guests.now epochs.now levels.new) state.new }
 {
-    let why = buckets_check::refusal(
-        keys,
-        &freqs[..],
-        epochs,
-        &prevs[..],
-        &nexts[..],
-        arena,
-        index,
-        &buckets[..],
-        &spares[..],
-        state,
-    );
-    if why.is_done() {
-        let after = buckets_regroup::sound::decay_halve_times(
-            freqs, prevs, nexts, buckets, spares, state, 1,
-        );
-        return Stored {
-            answer: Answer::Done,
-            state: after,
-        };
-    }
-    Stored {
-        answer: why,
-        state: state,
-    }
+    decay_halve_times(guests, epochs, levels, state, 1)
 }
 
 // Halves every frequency n times over, but to no less than 1. n is any number.
 pub fn decay_halve_times(
-    keys: &[u64],
-    freqs: &mut [u64],
+    guests: &Guests<&[u64]>,
     epochs: &[u64],
-    prevs: &mut [u64],
-    nexts: &mut [u64],
-    arena: &[u64],
-    index: &[u64],
-    buckets: &mut [u64],
-    spares: &mut [u64],
-    state: State,
+    levels: &mut Levels<&mut [u64]>,
+    state: &mut State,
     n: u64,
-) -> Stored
-    ensures { Makes kind.buckets (calls.DecayHalveTimes n)
-        (lent keys.now freqs.old epochs.now prevs.old nexts.old arena.now index.now buckets.old spares.old) state (plain_reply result.answer)
-        (lent keys.now freqs.new epochs.now prevs.new nexts.new arena.now index.now buckets.new spares.new) result.state }
+) -> Result<(), Refusal>
+    ensures same { SameLevels levels.old levels.new }
+    ensures does { Makes kind.buckets (ledger.DecayHalveTimes n)
+        (counted guests.now epochs.now levels.old) state.old (plain_reply result)
+        (counted guests.now epochs.now levels.new) state.new }
 {
-    let why = buckets_check::refusal(
-        keys,
-        &freqs[..],
-        epochs,
-        &prevs[..],
-        &nexts[..],
-        arena,
-        index,
-        &buckets[..],
-        &spares[..],
-        state,
-    );
-    if why.is_done() {
-        let after = buckets_regroup::sound::decay_halve_times(
-            freqs, prevs, nexts, buckets, spares, state, n,
-        );
-        return Stored {
-            answer: Answer::Done,
-            state: after,
-        };
-    }
-    Stored {
-        answer: why,
-        state: state,
-    }
+    check(guests, epochs, levels, *state)?;
+    sound::decay_halve_times(levels, state, n);
+    Ok(())
 }
 
 // Lowers every frequency by one number, so that the lowest is 1.
 pub fn rebase_min_freq(
-    keys: &[u64],
-    freqs: &mut [u64],
+    guests: &Guests<&[u64]>,
     epochs: &[u64],
-    prevs: &mut [u64],
-    nexts: &mut [u64],
-    arena: &[u64],
-    index: &[u64],
-    buckets: &mut [u64],
-    spares: &mut [u64],
-    state: State,
-) -> Stored
-    ensures { Makes kind.buckets calls.RebaseMinFreq
-        (lent keys.now freqs.old epochs.now prevs.old nexts.old arena.now index.now buckets.old spares.old) state (plain_reply result.answer)
-        (lent keys.now freqs.new epochs.now prevs.new nexts.new arena.now index.now buckets.new spares.new) result.state }
+    levels: &mut Levels<&mut [u64]>,
+    state: &mut State,
+) -> Result<(), Refusal>
+    ensures same { SameLevels levels.old levels.new }
+    ensures does { Makes kind.buckets ledger.RebaseMinFreq
+        (counted guests.now epochs.now levels.old) state.old (plain_reply result)
+        (counted guests.now epochs.now levels.new) state.new }
 {
-    let why = buckets_check::refusal(
-        keys,
-        &freqs[..],
-        epochs,
-        &prevs[..],
-        &nexts[..],
-        arena,
-        index,
-        &buckets[..],
-        &spares[..],
-        state,
-    );
-    if why.is_done() {
-        let after = buckets_regroup::sound::rebase_min_freq(
-            freqs, prevs, nexts, buckets, spares, state,
-        );
-        return Stored {
-            answer: Answer::Done,
-            state: after,
-        };
-    }
-    Stored {
-        answer: why,
-        state: state,
-    }
+    check(guests, epochs, levels, *state)?;
+    sound::rebase_min_freq(levels, state);
+    Ok(())
 }

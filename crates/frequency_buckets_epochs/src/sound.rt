@@ -6,21 +6,21 @@ ghost use Rattle.answers.specs.Replies.{number_reply, plain_reply};
 ghost use Rattle.frequency_buckets_epochs.specs.Calls.{OnState, OnEpochs};
 
 use buckets_tables::State;
-use key_index::Found;
-use numbers::{Answer, Key};
+use numbers::{Key, Refusal};
 
 // Sets the current epoch.
-pub fn set_epoch(state: State, epoch: u64) -> State
-    ensures { OnState (ledger.set_epoch epoch) state (ledger.done []) result }
+pub fn set_epoch(state: &mut State, epoch: u64)
+    ensures { OnState (ledger.set_epoch epoch) state.old (ledger.done []) state.new }
 {
-    state.dated(epoch)
+    state.epoch = epoch;
 }
 
-// Goes to the next epoch, which the state then has; 0 comes after the largest.
-pub fn advance_epoch(state: State) -> State
-    ensures { OnState ledger.advance_epoch state (number_reply result.epoch) result }
+// Goes to the next epoch, and answers it; 0 comes after the largest.
+pub fn advance_epoch(state: &mut State) -> u64
+    ensures { OnState ledger.advance_epoch state.old (number_reply (Ok result)) state.new }
 {
-    state.advanced()
+    state.advance();
+    state.epoch
 }
 
 // Sets the epoch of a bound key.
@@ -30,17 +30,17 @@ pub fn set_entry_epoch(
     index: &[u64],
     key: Key,
     epoch: u64,
-) -> Answer
+) -> Result<(), Refusal>
     requires { IndexSound index.now keys.now × (length epochs.old ≡ length keys.now) }
     ensures { OnEpochs (ledger.set_entry_epoch key.0 epoch)
         keys.now epochs.old index.now (plain_reply result)
         epochs.new }
 {
     match key_index::sound::find(index, keys, key) {
-        Found::At(slot) => {
+        Some(slot) => {
             epochs[slot.0 as usize] = epoch;
-            Answer::Done
+            Ok(())
         }
-        Found::Nothing => Answer::Absent,
+        None => Err(Refusal::Absent),
     }
 }

@@ -4,267 +4,149 @@
 
 ghost use Rattle.ledger.specs.BucketCalls as ledger;
 ghost use Rattle.promise.specs.Promise.{Answers};
-ghost use Rattle.buckets_tables.specs.Slices.{lent};
+ghost use Rattle.buckets_tables.specs.Slices.{shown};
 ghost use Rattle.buckets_tables.specs.Lent as kind;
-ghost use Rattle.answers.specs.Replies.{level_reply, least_reply, epoch_reply, count_reply, asked_reply};
+ghost use Rattle.answers.specs.Replies.{level_reply, least_reply, number_reply, yes_reply};
 
-use answers::{Asked, Count, Epoch, Least, Level};
-use buckets_tables::State;
-use numbers::{Frequency, Key};
+use buckets_check::check;
+use buckets_reads::sound;
+use buckets_tables::{Guests, State};
+use levels::Levels;
+use numbers::{Frequency, Key, Refusal};
 
 pub mod walk;
 
 // How many keys are bound.
 pub fn len(
-    keys: &[u64],
-    freqs: &[u64],
+    guests: &Guests<&[u64]>,
     epochs: &[u64],
-    prevs: &[u64],
-    nexts: &[u64],
-    arena: &[u64],
-    index: &[u64],
-    buckets: &[u64],
-    spares: &[u64],
+    levels: &Levels<&[u64]>,
     state: State,
-) -> Count
-    ensures { Answers kind.buckets (ledger.Ask ledger.Len)
-        (lent keys.now freqs.now epochs.now prevs.now nexts.now arena.now index.now buckets.now spares.now) state (count_reply result) }
+) -> Result<u64, Refusal>
+    ensures { Answers kind.buckets (ledger.Ask ledger.Len) (shown guests.now epochs.now levels.now) state (number_reply result) }
 {
-    let why = buckets_check::refusal(
-        keys, freqs, epochs, prevs, nexts, arena, index, buckets, spares, state,
-    );
-    if why.is_done() {
-        return Count::Is(buckets_reads::sound::len(state));
-    }
-    Count::Refused(why)
+    check(guests, epochs, levels, state)?;
+    Ok(sound::len(state))
 }
 
 // Whether no key is bound.
 pub fn is_empty(
-    keys: &[u64],
-    freqs: &[u64],
+    guests: &Guests<&[u64]>,
     epochs: &[u64],
-    prevs: &[u64],
-    nexts: &[u64],
-    arena: &[u64],
-    index: &[u64],
-    buckets: &[u64],
-    spares: &[u64],
+    levels: &Levels<&[u64]>,
     state: State,
-) -> Asked
-    ensures { Answers kind.buckets (ledger.Ask ledger.IsEmpty)
-        (lent keys.now freqs.now epochs.now prevs.now nexts.now arena.now index.now buckets.now spares.now) state (asked_reply result) }
+) -> Result<bool, Refusal>
+    ensures { Answers kind.buckets (ledger.Ask ledger.IsEmpty) (shown guests.now epochs.now levels.now) state (yes_reply result) }
 {
-    let why = buckets_check::refusal(
-        keys, freqs, epochs, prevs, nexts, arena, index, buckets, spares, state,
-    );
-    if why.is_done() {
-        return Asked::Is(buckets_reads::sound::is_empty(state));
-    }
-    Asked::Refused(why)
+    check(guests, epochs, levels, state)?;
+    Ok(sound::is_empty(state))
 }
 
 // Whether a key is bound.
 pub fn contains(
-    keys: &[u64],
-    freqs: &[u64],
+    guests: &Guests<&[u64]>,
     epochs: &[u64],
-    prevs: &[u64],
-    nexts: &[u64],
-    arena: &[u64],
-    index: &[u64],
-    buckets: &[u64],
-    spares: &[u64],
+    levels: &Levels<&[u64]>,
     state: State,
     key: Key,
-) -> Asked
-    ensures { Answers kind.buckets (ledger.Ask (ledger.Contains key.0))
-        (lent keys.now freqs.now epochs.now prevs.now nexts.now arena.now index.now buckets.now spares.now) state (asked_reply result) }
+) -> Result<bool, Refusal>
+    ensures { Answers kind.buckets (ledger.Ask (ledger.Contains key.0)) (shown guests.now epochs.now levels.now) state (yes_reply result) }
 {
-    let why = buckets_check::refusal(
-        keys, freqs, epochs, prevs, nexts, arena, index, buckets, spares, state,
-    );
-    if why.is_done() {
-        return Asked::Is(buckets_reads::sound::contains(keys, index, key));
-    }
-    Asked::Refused(why)
+    check(guests, epochs, levels, state)?;
+    Ok(sound::contains(guests.keys, guests.index, key))
 }
 
 // The current epoch.
 pub fn current_epoch(
-    keys: &[u64],
-    freqs: &[u64],
+    guests: &Guests<&[u64]>,
     epochs: &[u64],
-    prevs: &[u64],
-    nexts: &[u64],
-    arena: &[u64],
-    index: &[u64],
-    buckets: &[u64],
-    spares: &[u64],
+    levels: &Levels<&[u64]>,
     state: State,
-) -> Epoch
-    ensures { Answers kind.buckets (ledger.Ask ledger.CurrentEpoch)
-        (lent keys.now freqs.now epochs.now prevs.now nexts.now arena.now index.now buckets.now spares.now) state (epoch_reply result) }
+) -> Result<u64, Refusal>
+    ensures { Answers kind.buckets (ledger.Ask ledger.CurrentEpoch) (shown guests.now epochs.now levels.now) state (number_reply result) }
 {
-    let why = buckets_check::refusal(
-        keys, freqs, epochs, prevs, nexts, arena, index, buckets, spares, state,
-    );
-    if why.is_done() {
-        return Epoch::Is(buckets_reads::sound::current_epoch(state));
-    }
-    Epoch::Refused(why)
+    check(guests, epochs, levels, state)?;
+    Ok(sound::current_epoch(state))
 }
 
 // The frequency of a bound key.
 pub fn frequency(
-    keys: &[u64],
-    freqs: &[u64],
+    guests: &Guests<&[u64]>,
     epochs: &[u64],
-    prevs: &[u64],
-    nexts: &[u64],
-    arena: &[u64],
-    index: &[u64],
-    buckets: &[u64],
-    spares: &[u64],
+    levels: &Levels<&[u64]>,
     state: State,
     key: Key,
-) -> Level
-    ensures { Answers kind.buckets (ledger.Ask (ledger.Frequency key.0))
-        (lent keys.now freqs.now epochs.now prevs.now nexts.now arena.now index.now buckets.now spares.now) state (level_reply result) }
+) -> Result<Frequency, Refusal>
+    ensures { Answers kind.buckets (ledger.Ask (ledger.Frequency key.0)) (shown guests.now epochs.now levels.now) state (level_reply result) }
 {
-    let why = buckets_check::refusal(
-        keys, freqs, epochs, prevs, nexts, arena, index, buckets, spares, state,
-    );
-    if why.is_done() {
-        return buckets_reads::sound::frequency(keys, freqs, index, key);
-    }
-    Level::Refused(why)
+    check(guests, epochs, levels, state)?;
+    sound::frequency(guests.keys, levels.freqs, guests.index, key)
 }
 
 // The last epoch of a bound key.
 pub fn entry_epoch(
-    keys: &[u64],
-    freqs: &[u64],
+    guests: &Guests<&[u64]>,
     epochs: &[u64],
-    prevs: &[u64],
-    nexts: &[u64],
-    arena: &[u64],
-    index: &[u64],
-    buckets: &[u64],
-    spares: &[u64],
+    levels: &Levels<&[u64]>,
     state: State,
     key: Key,
-) -> Epoch
-    ensures { Answers kind.buckets (ledger.Ask (ledger.EntryEpoch key.0))
-        (lent keys.now freqs.now epochs.now prevs.now nexts.now arena.now index.now buckets.now spares.now) state (epoch_reply result) }
+) -> Result<u64, Refusal>
+    ensures { Answers kind.buckets (ledger.Ask (ledger.EntryEpoch key.0)) (shown guests.now epochs.now levels.now) state (number_reply result) }
 {
-    let why = buckets_check::refusal(
-        keys, freqs, epochs, prevs, nexts, arena, index, buckets, spares, state,
-    );
-    if why.is_done() {
-        return buckets_reads::sound::entry_epoch(keys, epochs, index, key);
-    }
-    Epoch::Refused(why)
+    check(guests, epochs, levels, state)?;
+    sound::entry_epoch(guests.keys, epochs, guests.index, key)
 }
 
 // The lowest frequency in use.
 pub fn min_freq(
-    keys: &[u64],
-    freqs: &[u64],
+    guests: &Guests<&[u64]>,
     epochs: &[u64],
-    prevs: &[u64],
-    nexts: &[u64],
-    arena: &[u64],
-    index: &[u64],
-    buckets: &[u64],
-    spares: &[u64],
+    levels: &Levels<&[u64]>,
     state: State,
-) -> Level
-    ensures { Answers kind.buckets (ledger.Ask ledger.MinFreq)
-        (lent keys.now freqs.now epochs.now prevs.now nexts.now arena.now index.now buckets.now spares.now) state (level_reply result) }
+) -> Result<Frequency, Refusal>
+    ensures { Answers kind.buckets (ledger.Ask ledger.MinFreq) (shown guests.now epochs.now levels.now) state (level_reply result) }
 {
-    let why = buckets_check::refusal(
-        keys, freqs, epochs, prevs, nexts, arena, index, buckets, spares, state,
-    );
-    if why.is_done() {
-        return buckets_reads::sound::min_freq(state);
-    }
-    Level::Refused(why)
+    check(guests, epochs, levels, state)?;
+    sound::min_freq(state)
 }
 
 // The key at the tail of the lowest list.
 pub fn peek_min(
-    keys: &[u64],
-    freqs: &[u64],
+    guests: &Guests<&[u64]>,
     epochs: &[u64],
-    prevs: &[u64],
-    nexts: &[u64],
-    arena: &[u64],
-    index: &[u64],
-    buckets: &[u64],
-    spares: &[u64],
+    levels: &Levels<&[u64]>,
     state: State,
-) -> Least
-    ensures { Answers kind.buckets (ledger.Ask ledger.PeekMin)
-        (lent keys.now freqs.now epochs.now prevs.now nexts.now arena.now index.now buckets.now spares.now) state (least_reply result) }
+) -> Result<(Key, Frequency), Refusal>
+    ensures { Answers kind.buckets (ledger.Ask ledger.PeekMin) (shown guests.now epochs.now levels.now) state (least_reply result) }
 {
-    let why = buckets_check::refusal(
-        keys, freqs, epochs, prevs, nexts, arena, index, buckets, spares, state,
-    );
-    if why.is_done() {
-        return buckets_reads::sound::peek_min(keys, freqs, buckets, state);
-    }
-    Least::Refused(why)
+    check(guests, epochs, levels, state)?;
+    sound::peek_min(guests.keys, levels.freqs, levels.buckets, state)
 }
 
 // How many keys have a frequency, 0 where it is not in use.
 pub fn bucket_len(
-    keys: &[u64],
-    freqs: &[u64],
+    guests: &Guests<&[u64]>,
     epochs: &[u64],
-    prevs: &[u64],
-    nexts: &[u64],
-    arena: &[u64],
-    index: &[u64],
-    buckets: &[u64],
-    spares: &[u64],
+    levels: &Levels<&[u64]>,
     state: State,
     frequency: Frequency,
-) -> Count
-    ensures { Answers kind.buckets (ledger.Ask (ledger.BucketLen frequency.0))
-        (lent keys.now freqs.now epochs.now prevs.now nexts.now arena.now index.now buckets.now spares.now) state (count_reply result) }
+) -> Result<u64, Refusal>
+    ensures { Answers kind.buckets (ledger.Ask (ledger.BucketLen frequency.0)) (shown guests.now epochs.now levels.now) state (number_reply result) }
 {
-    let why = buckets_check::refusal(
-        keys, freqs, epochs, prevs, nexts, arena, index, buckets, spares, state,
-    );
-    if why.is_done() {
-        return Count::Is(buckets_reads::sound::bucket_len(buckets, state, frequency));
-    }
-    Count::Refused(why)
+    check(guests, epochs, levels, state)?;
+    Ok(sound::bucket_len(levels.buckets, state, frequency))
 }
 
 // How many keys have at most a frequency.
 pub fn len_up_to(
-    keys: &[u64],
-    freqs: &[u64],
+    guests: &Guests<&[u64]>,
     epochs: &[u64],
-    prevs: &[u64],
-    nexts: &[u64],
-    arena: &[u64],
-    index: &[u64],
-    buckets: &[u64],
-    spares: &[u64],
+    levels: &Levels<&[u64]>,
     state: State,
     frequency: Frequency,
-) -> Count
-    ensures { Answers kind.buckets (ledger.Ask (ledger.LenUpTo frequency.0))
-        (lent keys.now freqs.now epochs.now prevs.now nexts.now arena.now index.now buckets.now spares.now) state (count_reply result) }
+) -> Result<u64, Refusal>
+    ensures { Answers kind.buckets (ledger.Ask (ledger.LenUpTo frequency.0)) (shown guests.now epochs.now levels.now) state (number_reply result) }
 {
-    let why = buckets_check::refusal(
-        keys, freqs, epochs, prevs, nexts, arena, index, buckets, spares, state,
-    );
-    if why.is_done() {
-        return Count::Is(buckets_reads::sound::len_up_to(buckets, state, frequency));
-    }
-    Count::Refused(why)
+    check(guests, epochs, levels, state)?;
+    Ok(sound::len_up_to(levels.buckets, state, frequency))
 }

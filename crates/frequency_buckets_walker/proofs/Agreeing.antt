@@ -15,7 +15,7 @@ use Rattle.answers.specs.Replies.{reached_reply}
 use Rattle.answers.proofs.Injective.{reached_injective}
 use Rattle.buckets_walk.proofs.Walking.{leads_agree}
 use Rattle.frequency_buckets_walker.specs.declared.Stand.{Stand}
-use Rattle.frequency_buckets_walker.specs.Stands.{of_link, stand_of}
+use Rattle.frequency_buckets_walker.specs.Stands.{stand_of}
 use Rattle.frequency_buckets_walker.specs.Walks.{shows, Stands, Starts, Steps, nth_of, Nth}
 
 module _ (t : Tables) (s : State) where
@@ -35,4 +35,4 @@ module _ (t : Tables) (s : State) where
 -- a step
 pub steps_agree : (n : List ℕ) (at r q : Stand) → Steps n at r → Steps n at q → r ≡ q
 steps_agree n at r q a b =
-    a.stands ∙ ap (λ z. stand_of (of_link z)) (leads_agree n at.slot.0 a.after b.after a.leads b.leads) ∙ sym b.stands
+    a.stands ∙ ap stand_of (leads_agree n at.slot.0 a.after b.after a.leads b.leads) ∙ sym b.stands

@@ -3,10 +3,10 @@
 use mathlib.Core.Path.{◌≡◌, refl, sym, ap, ◌∙◌, subst}
 use mathlib.Core.Bool.{true, false}
 use mathlib.Core.List.{List, [], ◌∷◌, ◌++◌, append_assoc}
-use Prim.Native.Nat.{ℕ, ◌+◌, ◌≤◌, ◌<◌, ◌-◌}
+use Prim.Native.Nat.{ℕ, ◌+◌, ◌≤◌, ◌-◌}
 use native.Mathlib.Omega.{arith}
 use Rattle.numbers.specs.Marks.{NONE}
-use Rattle.numbers.specs.declared.Answer.{Answer}
+use Rattle.numbers.specs.declared.Refusal.{Refusal}
 use Rattle.lists.specs.Lists.{All}
 use Rattle.lists.proofs.Tests.{if_eq, if_same, if_other, by_eq, neither}
 use Rattle.lists.proofs.Members.{all_mid}
@@ -14,29 +14,27 @@ use Rattle.ledger.specs.Ledger.{Ledger, Item, WellFormed}
 use Rattle.ledger.specs.Buckets.{refused}
 use Rattle.ledger.specs.Walk.{Step, here, no_more, absent, list_of, head, start, step}
 use Rattle.ledger.proofs.Walked.{list_of_frequency, step_at, step_outside}
-use Rattle.promise.specs.Promise.{over, short, corrupt, ledger, Reads, By, Promised}
+use Rattle.promise.specs.Promise.{over, short, corrupt, ledger, Reads, By}
 use Rattle.promise.proofs.Agree.{reads_one}
 use Rattle.buckets_tables.specs.declared.State.{State}
 use Rattle.buckets_tables.specs.Tables.{Tables, tables, Sized}
 use Rattle.buckets_tables.specs.Holds.{Holds}
 use Rattle.buckets_tables.specs.Lent as lent
 use Rattle.buckets_tables.proofs.Read.{holds_one}
-use Rattle.answers.specs.declared.Reached.{Reached}
-use Rattle.answers.specs.declared.Reached.TheVariants.{At, NoMore, Refused}
+use Rattle.std.proofs.Common.{Result, Ok, Err, Option, Some, None}
+use Rattle.std.specs.Result.{is_err}
+use Rattle.numbers.specs.declared.Slot.{Slot}
 use Rattle.answers.specs.Replies.{reached_reply}
 use Rattle.answers.proofs.Injective.{reached_injective}
 use Rattle.buckets_walk.specs.Walks.{slot_of}
 use Rattle.frequency_buckets_walker.specs.declared.Stand.{Stand}
-use Rattle.frequency_buckets_walker.specs.Stands.{NOWHERE, is_refused, of_link, stand_of}
-use Rattle.frequency_buckets_walker.specs.Walks.{shows, Stands, Starts, Steps, Linked, nth_of, Nth}
+use Rattle.frequency_buckets_walker.specs.Stands.{NOWHERE, stand_of}
+use Rattle.frequency_buckets_walker.specs.Walks.{shows, Reaches, Stands, Starts, Steps, Linked, nth_of, Nth}
 use Rattle.frequency_buckets_walker.proofs.Answers.{stands_by}
 
--- what a walker answers that stands where the ledger's walk does, and the slot it stands at
-abbrev pub told : Step → Reached
-told st = of_link (slot_of st)
-
+-- the slot that a walker stands at which stands where the ledger's walk does
 abbrev slot_at : Step → ℕ
-slot_at st = (stand_of (told st)).slot.0
+slot_at st = (stand_of (slot_of st)).slot.0
 
 -- ---- places of a list
 
@@ -82,43 +80,43 @@ module _ (l : Ledger) (w : WellFormed l) (limit : l.capacity ≤ NONE) (g : ℕ)
 
 -- ---- what a promise says of the walker
 
-refused_so : (a : Reached) (w : Answer) → reached_reply a ≡ refused w → is_refused a ≡ true
-refused_so (At x) w e = let c : ◌≡◌ {A = ℕ} 0 1 = cc in absurd (omega arith)
-refused_so NoMore w e = let c : ◌≡◌ {A = ℕ} 0 1 = cc in absurd (omega arith)
-refused_so (Refused a) w e = refl
+refused_so : (a : Result (Option Slot) Refusal) (w : Refusal) → reached_reply a ≡ refused w → is_err a ≡ true
+refused_so (Ok (Some x)) w e = let c : ◌≡◌ {A = ℕ} 0 1 = cc in absurd (omega arith)
+refused_so (Ok None) w e = let c : ◌≡◌ {A = ℕ} 0 1 = cc in absurd (omega arith)
+refused_so (Err a) w e = refl
 
-absent_so : (st : Step) → is_refused (told st) ≡ true → st ≡ absent
+absent_so : (st : Step) → is_err (slot_of st) ≡ true → st ≡ absent
 absent_so (here x) e = absurd (neither false e refl)
 absent_so no_more e = absurd (neither false e refl)
 absent_so absent e = refl
 
 module _ (t : Tables) (s : State) (walk walk' : Ledger → Step) (r : Stand) where
   -- a walker that stands as the one walk does stands as the other does, where the tables hold no ledger, or one on which they agree
-  stands_alike : ((l : Ledger) → Holds t s l → r.answer ≡ told (walk l) → walk l ≡ walk' l) → Stands t s walk r → Stands t s walk' r
+  stands_alike : ((l : Ledger) → Holds t s l → r.answer ≡ slot_of (walk l) → walk l ≡ walk' l) → Stands t s walk r → Stands t s walk' r
   stands_alike same h = record { promised = go h.promised; stands = h.stands }
     where
-      go : Promised lent.buckets (λ l. shows (walk l) l) t s (reached_reply r.answer) t s → Promised lent.buckets (λ l. shows (walk' l) l) t s (reached_reply r.answer) t s
+      go : Reaches t s walk r.answer → Reaches t s walk' r.answer
       go (over, v, y) = (over, v, y)
       go (short, v, y) = (short, v, y)
       go (corrupt, v, y) = (corrupt, v, y)
       go (ledger l, v, y) =
-          let q = same l v.2 (reached_injective r.answer (told (walk l)) y.answer) in
-          (ledger l, v, record { answer = y.answer ∙ ap (λ (st : Step). reached_reply (told st)) q; holds = y.holds; leaves = y.leaves })
+          let q = same l v.2 (reached_injective r.answer (slot_of (walk l)) y.answer) in
+          (ledger l, v, record { answer = y.answer ∙ ap (λ (st : Step). reached_reply (slot_of st)) q; holds = y.holds; leaves = y.leaves })
 
 -- a walker that has answered no refusal stands on tables that hold a ledger
-pub stands_held : (t : Tables) (s : State) (walk : Ledger → Step) (r : Stand) → is_refused r.answer ≡ false → Stands t s walk r → (l : Ledger) × Reads lent.buckets t s (ledger l)
+pub stands_held : (t : Tables) (s : State) (walk : Ledger → Step) (r : Stand) → is_err r.answer ≡ false → Stands t s walk r → (l : Ledger) × Reads lent.buckets t s (ledger l)
 stands_held t s walk r d h = go h.promised
   where
-    go : Promised lent.buckets (λ l. shows (walk l) l) t s (reached_reply r.answer) t s → (l : Ledger) × Reads lent.buckets t s (ledger l)
-    go (over, v, y) = absurd (neither (is_refused r.answer) (refused_so r.answer _ y.answer) d)
-    go (short, v, y) = absurd (neither (is_refused r.answer) (refused_so r.answer _ y.answer) d)
-    go (corrupt, v, y) = absurd (neither (is_refused r.answer) (refused_so r.answer _ y.answer) d)
+    go : Reaches t s walk r.answer → (l : Ledger) × Reads lent.buckets t s (ledger l)
+    go (over, v, y) = absurd (neither (is_err r.answer) (refused_so r.answer _ y.answer) d)
+    go (short, v, y) = absurd (neither (is_err r.answer) (refused_so r.answer _ y.answer) d)
+    go (corrupt, v, y) = absurd (neither (is_err r.answer) (refused_so r.answer _ y.answer) d)
     go (ledger l, v, y) = (l, v)
 
 -- on tables that hold a ledger the walker stands as that ledger's walk does
-pub stands_told : (t : Tables) (s : State) (walk : Ledger → Step) (r : Stand) (l : Ledger) → Holds t s l → Stands t s walk r → r ≡ stand_of (told (walk l))
+pub stands_told : (t : Tables) (s : State) (walk : Ledger → Step) (r : Stand) (l : Ledger) → Holds t s l → Stands t s walk r → r ≡ stand_of (slot_of (walk l))
 stands_told t s walk r l h w =
-    w.stands ∙ ap stand_of (reached_injective r.answer (told (walk l)) (subst (By lent.buckets (λ m. shows (walk m) m) t s (reached_reply r.answer) t s) reading w.promised.2).answer)
+    w.stands ∙ ap stand_of (reached_injective r.answer (slot_of (walk l)) (subst (By lent.buckets (λ m. shows (walk m) m) t s (reached_reply r.answer) t s) reading w.promised.2).answer)
   where
     reading : w.promised.0 ≡ ledger l
     reading = reads_one lent.buckets holds_one t s w.promised.0 (ledger l) w.promised.1 (let c = h.capacity in let m = h.limit in omega arith, subst (Sized t) (sym h.capacity) h.sized, h)
@@ -130,15 +128,15 @@ unfolding start
 nth_start t s g r h = stands_alike t s (start g) (λ l. nth_of (list_of g l.levels) 0) r (λ l w q. nth_first (list_of g l.levels)) h
 
 -- a walker that has answered a refusal answers the same after any more steps
-pub nth_refused : (t : Tables) (s : State) (g m n : ℕ) (r : Stand) → m ≤ n → is_refused r.answer ≡ true → Nth t s g m r → Nth t s g n r
+pub nth_refused : (t : Tables) (s : State) (g m n : ℕ) (r : Stand) → m ≤ n → is_err r.answer ≡ true → Nth t s g m r → Nth t s g n r
 nth_refused t s g m n r b e h =
     stands_alike t s (λ l. nth_of (list_of g l.levels) m) (λ l. nth_of (list_of g l.levels) n) r
     (λ l w q.
-    let z = absent_so (nth_of (list_of g l.levels) m) (sym (ap is_refused q) ∙ e) in
+    let z = absent_so (nth_of (list_of g l.levels) m) (sym (ap is_err q) ∙ e) in
     z ∙ sym (nth_beyond (list_of g l.levels) m n z b)) h
 
 -- and any other goes one place on
-pub nth_more : (k f e p n a i b sp : List ℕ) (s : State) (g m : ℕ) (at r : Stand) → is_refused at.answer ≡ false → Nth (tables k f e p n a i b sp) s g m at → Steps n at r →
+pub nth_more : (k f e p n a i b sp : List ℕ) (s : State) (g m : ℕ) (at r : Stand) → is_err at.answer ≡ false → Nth (tables k f e p n a i b sp) s g m at → Steps n at r →
     Nth (tables k f e p n a i b sp) s g (m + 1) r
 nth_more k f e p n a i b sp s g m at r d h w =
     let t = tables k f e p n a i b sp in
@@ -148,39 +146,18 @@ nth_more k f e p n a i b sp s g m at r d h w =
     let xs : List Item = list_of g l.levels in
     let here-so : at.slot.0 ≡ slot_at (nth_of xs m) = ap (λ (z : Stand). z.slot.0) (stands_told t s (λ l. nth_of (list_of g l.levels) m) at l holds h) in
     let on : step at.slot.0 l ≡ nth_of xs (m + 1) = ap (λ (x : ℕ). step x l) here-so ∙ step_nth l holds.formed holds.limit g [] xs refl m in
-    stands_by t s (λ l. nth_of (list_of g l.levels) (m + 1)) (of_link w.after) r w.stands (
+    stands_by t s (λ l. nth_of (list_of g l.levels) (m + 1)) w.after r w.stands (
       ledger l,
       found.1,
       record {
-        answer = ap (λ z. reached_reply (of_link z)) (w.leads.steps k f e p a i b sp s l holds) ∙ ap (λ (st : Step). reached_reply (told st)) on;
+        answer = ap reached_reply (w.leads.steps k f e p a i b sp s l holds) ∙ ap (λ (st : Step). reached_reply (slot_of st)) on;
         holds = holds;
         leaves = λ z q. (refl, refl);
       },
     )
 
--- ---- `nth`: how far the walker has come that began at `from`
-
-pub record Gone (t : Tables) (n : ℕ) (from at : Stand) (gone : ℕ) : Type 0 where
-  pub within : gone ≤ n
-  pub place : (s : State) (g : ℕ) → Starts t s g from → Nth t s g gone at
-
-pub gone_start : (t : Tables) (n : ℕ) (at : Stand) → Gone t n at at 0
-gone_start t n at = record { within = omega arith; place = λ s g h. nth_start t s g at h }
-
-pub gone_more : (k f e p n a i b sp : List ℕ) (m : ℕ) (from at r : Stand) (gone : ℕ) → gone < m → is_refused at.answer ≡ false → Steps n at r →
-    Gone (tables k f e p n a i b sp) m from at gone → Gone (tables k f e p n a i b sp) m from r (gone + 1)
-gone_more k f e p n a i b sp m from at r gone l d w h =
-    record { within = omega arith; place = λ s g q. nth_more k f e p n a i b sp s g gone at r d (h.place s g q) w }
-
--- it may go on where it has answered no refusal
-pub gone_linked : (k f e p n a i b sp : List ℕ) (s : State) (g m : ℕ) (from at : Stand) (gone : ℕ) → is_refused at.answer ≡ false → Starts (tables k f e p n a i b sp) s g from →
-    Gone (tables k f e p n a i b sp) m from at gone → Linked n
-gone_linked k f e p n a i b sp s g m from at gone d w h =
-    let found = stands_held (tables k f e p n a i b sp) s (λ l. nth_of (list_of g l.levels) gone) at d (h.place s g w) in
+-- the links that it goes on over are those of tables that hold a ledger
+pub nth_linked : (k f e p n a i b sp : List ℕ) (s : State) (g m : ℕ) (at : Stand) → is_err at.answer ≡ false → Nth (tables k f e p n a i b sp) s g m at → Linked n
+nth_linked k f e p n a i b sp s g m at d h =
+    let found = stands_held (tables k f e p n a i b sp) s (λ l. nth_of (list_of g l.levels) m) at d h in
     (k, f, e, p, a, i, b, sp, s, (found.0, found.1.2))
-
-pub gone_refused : (t : Tables) (s : State) (g n : ℕ) (from at : Stand) (gone : ℕ) → is_refused at.answer ≡ true → Starts t s g from → Gone t n from at gone → Nth t s g n at
-gone_refused t s g n from at gone e w h = nth_refused t s g gone n at h.within e (h.place s g w)
-
-pub gone_end : (t : Tables) (s : State) (g n : ℕ) (from at : Stand) (gone : ℕ) → n ≤ gone → Starts t s g from → Gone t n from at gone → Nth t s g n at
-gone_end t s g n from at gone b w h = let c = h.within in subst (λ (m : ℕ). Nth t s g m at) (omega arith) (h.place s g w)

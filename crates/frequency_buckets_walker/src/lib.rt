@@ -1,17 +1,16 @@
 // A walker: it holds the links of the entries and where it stands in the list of a frequency. Its start checks the tables, its step only
 // the slot. The fields of a walker and of a stand are this crate's own: whoever holds one got it from a start, which checked the tables that
-// the walker holds. These functions are thin: the work is done in `plain`, on plain tables. Other callers take `first`, `nth` and
-// `sound::onward`, whose parameters are plain too.
+// the walker holds. These functions are thin: the work is done in `plain`. Other callers take `first`, `nth` and `sound::onward`, which
+// know of no walker.
 #![tactic(auto)]
 
 ghost use Rattle.std.specs.Prelude.{◌≡◌};
-ghost use Rattle.buckets_tables.specs.Slices.{lent};
-ghost use Rattle.frequency_buckets_walker.specs.Stands.{is_refused};
+ghost use Rattle.buckets_tables.specs.Slices.{shown};
 ghost use Rattle.frequency_buckets_walker.specs.Walks.{Starts, Steps, Nth};
 
-use answers::Reached;
-use buckets_tables::State;
-use numbers::{Frequency, Slot};
+use buckets_tables::{Guests, State};
+use levels::Levels;
+use numbers::{Frequency, Refusal, Slot};
 
 mod plain;
 pub mod sound;
@@ -23,12 +22,12 @@ const NOWHERE: u64 = 0xffff_ffff_ffff_ffff;
 #[derive(Clone, Copy)]
 pub struct Stand {
     slot: Slot,
-    answer: Reached,
+    answer: Result<Option<Slot>, Refusal>,
 }
 
 impl Stand {
     // What was answered. Where that is a refusal, no slot is told beside it.
-    pub fn reached(self) -> Reached
+    pub fn reached(self) -> Result<Option<Slot>, Refusal>
         ensures { result ≡ self.answer }
     {
         self.answer
@@ -44,26 +43,17 @@ pub struct Walker<'a> {
 
 // Starts the walk of a frequency.
 pub fn start<'a>(
-    keys: &'a [u64],
-    freqs: &'a [u64],
-    epochs: &'a [u64],
-    prevs: &'a [u64],
-    nexts: &'a [u64],
-    arena: &'a [u64],
-    index: &'a [u64],
-    buckets: &'a [u64],
-    spares: &'a [u64],
+    guests: &Guests<&[u64]>,
+    epochs: &[u64],
+    levels: &Levels<&'a [u64]>,
     state: State,
     frequency: Frequency,
 ) -> Walker<'a>
-    ensures { (result.links ≡ nexts.entry) × Starts
-        (lent keys.now freqs.now epochs.now prevs.now nexts.now arena.now index.now buckets.now spares.now) state frequency.0 result.at }
+    ensures { (result.links ≡ levels.now.nexts) × Starts (shown guests.now epochs.now levels.now) state frequency.0 result.at }
 {
     Walker {
-        links: nexts,
-        at: plain::start_at(
-            keys, freqs, epochs, prevs, nexts, arena, index, buckets, spares, state, frequency,
-        ),
+        links: levels.nexts,
+        at: plain::start_at(guests, epochs, levels, state, frequency),
     }
 }
 
@@ -85,66 +75,36 @@ pub fn stands<'a>(w: Walker<'a>) -> Stand
     w.at
 }
 
-// Where a walker of a frequency starts, on plain tables.
-pub fn first<'a>(
-    keys: &'a [u64],
-    freqs: &'a [u64],
-    epochs: &'a [u64],
-    prevs: &'a [u64],
-    nexts: &'a [u64],
-    arena: &'a [u64],
-    index: &'a [u64],
-    buckets: &'a [u64],
-    spares: &'a [u64],
+// Where a walker of a frequency starts.
+pub fn first(
+    guests: &Guests<&[u64]>,
+    epochs: &[u64],
+    levels: &Levels<&[u64]>,
     state: State,
     frequency: Frequency,
 ) -> Stand
-    ensures { Starts (lent keys.now freqs.now epochs.now prevs.now nexts.now arena.now index.now buckets.now spares.now) state frequency.0 result }
+    ensures { Starts (shown guests.now epochs.now levels.now) state frequency.0 result }
 {
-    stands(start(
-        keys, freqs, epochs, prevs, nexts, arena, index, buckets, spares, state, frequency,
-    ))
-}
-
-// Whether a walker has answered a refusal.
-fn is_refused(answer: Reached) -> bool
-    ensures { result ≡ is_refused answer }
-{
-    match answer {
-        Reached::At(_) => false,
-        Reached::NoMore => false,
-        Reached::Refused(_) => true,
-    }
+    stands(start(guests, epochs, levels, state, frequency))
 }
 
 // Where a walker of a frequency stands after n steps. A walker that has answered a refusal answers no other.
-pub fn nth<'a>(
-    keys: &'a [u64],
-    freqs: &'a [u64],
-    epochs: &'a [u64],
-    prevs: &'a [u64],
-    nexts: &'a [u64],
-    arena: &'a [u64],
-    index: &'a [u64],
-    buckets: &'a [u64],
-    spares: &'a [u64],
+pub fn nth(
+    guests: &Guests<&[u64]>,
+    epochs: &[u64],
+    levels: &Levels<&[u64]>,
     state: State,
     frequency: Frequency,
     n: u64,
 ) -> Stand
-    ensures { Nth (lent keys.now freqs.now epochs.now prevs.now nexts.now arena.now index.now buckets.now spares.now) state frequency.0 n result }
+    ensures { Nth (shown guests.now epochs.now levels.now) state frequency.0 n result }
 {
-    let mut at = first(
-        keys, freqs, epochs, prevs, nexts, arena, index, buckets, spares, state, frequency,
-    );
-    let mut gone: u64 = 0;
-    while gone < n {
-        let answer = at.answer;
-        if is_refused(answer) {
+    let mut at = first(guests, epochs, levels, state, frequency);
+    for _ in 0..n {
+        if at.answer.is_err() {
             return at;
         }
-        at = sound::onward(nexts, at);
-        gone += 1;
+        at = sound::onward(levels.nexts, at);
     }
     at
 }

@@ -15,7 +15,7 @@ use Rattle.lists.proofs.Tests.{by_eq}
 use Rattle.lists.proofs.Members.{all_map, all_in, all_mid, all_append, in_left, in_right, in_either, final_in, distinct_append}
 use Rattle.lists.proofs.Pigeonhole.{marked_all, marked_cover}
 use Rattle.links.specs.Chain.{Chain, cells}
-use Rattle.links.proofs.Chains.{Walking, walk_none, walk_more, walk_done, chain_length}
+use Rattle.links.proofs.Chains.{Walking, walk_more, walk_done, chain_length}
 use Rattle.key_index.specs.Index.{slot_class, OUT, link_of, Has, Ascending, Listed, IndexSound}
 use Rattle.key_index.specs.Check.{Follows, marked, in_index, Gathered}
 use Rattle.key_index.proofs.Class.{class_below}
@@ -30,9 +30,6 @@ pub record Meeting (index keys : List ℕ) (c : ℕ) (us : List ℕ) (at : ℕ) 
   pub below : All (λ x. x < length keys) us
   pub ascending : Ascending (cells keys) us
   pub classes : All (λ x. slot_class keys x ≡ c) us
-
-pub meet_none : (index keys : List ℕ) (c : ℕ) → Meeting index keys c [] (get_or index c 0)
-meet_none index keys c = record { walking = walk_none (length keys) (link_of index keys) (get_or index c 0); below = tt; ascending = tt; classes = tt }
 
 module _ (index keys : List ℕ) (c : ℕ) (us : List ℕ) (at : ℕ) (limit : length keys ≤ LIMIT) (m : Meeting index keys c us at) where
   pub meet_more : at < length keys → Follows keys c (final NONE us) at → Meeting index keys c (us ++ at ∷ []) (link_of index keys at)
@@ -75,10 +72,6 @@ module _ (index keys : List ℕ) (c : ℕ) (us : List ℕ) (at : ℕ) (limit : l
 
 -- ---- all classes
 
-pub gather_none : (index keys : List ℕ) → Gathered index keys 0 []
-gather_none index keys =
-    record { below = tt; distinct = tt; inside = tt; lists = λ d l. absurd (omega arith); origin = λ s i. absurd i }
-
 pub gather_more : (index keys : List ℕ) (c : ℕ) (ms ss : List ℕ) → length keys ≤ LIMIT → Gathered index keys c ms → Listed index keys c ss → Gathered index keys (c + 1) (ms ++ ss)
 gather_more index keys c ms ss limit g l = record {
   below =
@@ -120,12 +113,6 @@ marked_has index keys s l e = (l, eqb-false (link_of index keys s) OUT (not-true
 
 pub has_marked : (index keys : List ℕ) (s : ℕ) → Has index keys s → marked index keys s ≡ true
 has_marked index keys s h = ap not (ne_eqb (link_of index keys s) OUT h.1)
-
--- the mark, where the keys are half as many as the words
-pub has_test : (index keys : List ℕ) (s n : ℕ) → n ≡ length keys → s < n → (not (eqb (get_or index (n + s) 0) OUT) ≡ true) ↔ Has index keys s
-has_test index keys s n e l =
-    subst (λ (k : ℕ). (not (eqb (get_or index (k + s) 0) OUT) ≡ true) ↔ Has index keys s) (sym e)
-    (λ q. marked_has index keys s (omega arith) q, λ h. has_marked index keys s h)
 
 module _ (index keys ms : List ℕ) (limit : length keys ≤ LIMIT) (sized : length index ≡ length keys + length keys) (g : Gathered index keys (length keys) ms) where
   below : All (λ s. s < length keys) ms

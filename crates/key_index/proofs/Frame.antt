@@ -5,13 +5,12 @@ use mathlib.Core.List.{List, [], ◌∷◌}
 use Prim.Native.Nat.{ℕ, ◌+◌, ◌<◌}
 use native.Mathlib.Omega.{arith}
 use lib.ListN.{length, get_or}
+use Rattle.std.specs.Prelude.{Option, Some, None}
 use Rattle.numbers.specs.declared.Slot.{Slot}
 use Rattle.lists.specs.Lists.{All}
 use Rattle.lists.proofs.Members.{all_map, all_both}
 use Rattle.links.specs.Chain.{Chain, cells}
 use Rattle.key_index.specs.Index.{slot_class, OUT, Has, Ascending, Listed, Finds, IndexSound}
-use Rattle.key_index.specs.declared.Found.{Found}
-use Rattle.key_index.specs.declared.Found.TheVariants.{At, Nothing}
 use Rattle.key_index.proofs.Listing.{listed_has, has_one}
 
 -- ---- other keys
@@ -62,21 +61,21 @@ module _ (index keys keys' : List ℕ) (size : length keys' ≡ length keys) whe
       kept c ss l = all_map (Has index keys) (λ s. cells keys' s ≡ cells keys s) same ss (listed_has index keys sound.limit c ss l)
 
   -- and a search of it answers as it did
-  pub finds_frame : ((s : ℕ) → Has index keys s → cells keys' s ≡ cells keys s) → (key : ℕ) (r : Found) → Finds index keys key r → Finds index keys' key r
-  finds_frame same key (At s) f = ((has_frame s.0).1 f.0, same s.0 f.0 ∙ f.1)
-  finds_frame same key Nothing f = λ s h e. f s ((has_frame s).0 h) (sym (same s ((has_frame s).0 h)) ∙ e)
+  pub finds_frame : ((s : ℕ) → Has index keys s → cells keys' s ≡ cells keys s) → (key : ℕ) (r : Option Slot) → Finds index keys key r → Finds index keys' key r
+  finds_frame same key (Some s) f = ((has_frame s.0).1 f.0, same s.0 f.0 ∙ f.1)
+  finds_frame same key None f = λ s h e. f s ((has_frame s).0 h) (sym (same s ((has_frame s).0 h)) ∙ e)
 
 -- ---- other places
 
 -- two indexes with the same slots in answer alike, wherever they keep them
-pub finds_alike : (i j keys : List ℕ) (key : ℕ) (r r' : Found) → IndexSound i keys → ((s : ℕ) → Has i keys s ↔ Has j keys s) → Finds i keys key r → Finds j keys key r' → r ≡ r'
-finds_alike i j keys key (At s) (At s') sound same f g =
+pub finds_alike : (i j keys : List ℕ) (key : ℕ) (r r' : Option Slot) → IndexSound i keys → ((s : ℕ) → Has i keys s ↔ Has j keys s) → Finds i keys key r → Finds j keys key r' → r ≡ r'
+finds_alike i j keys key (Some s) (Some s') sound same f g =
     let e = has_one i keys sound s.0 s'.0 f.0 ((same s'.0).1 g.0) (f.1 ∙ sym g.1) in
-    λ k. At (record { 0 = e k })
-finds_alike i j keys key (At s) Nothing sound same f g = absurd (g s.0 ((same s.0).0 f.0) f.1)
-finds_alike i j keys key Nothing (At s') sound same f g = absurd (f s'.0 ((same s'.0).1 g.0) g.1)
-finds_alike i j keys key Nothing Nothing sound same f g = refl
+    λ k. Some (record { 0 = e k })
+finds_alike i j keys key (Some s) None sound same f g = absurd (g s.0 ((same s.0).0 f.0) f.1)
+finds_alike i j keys key None (Some s') sound same f g = absurd (f s'.0 ((same s'.0).1 g.0) g.1)
+finds_alike i j keys key None None sound same f g = refl
 
 -- a slot that is in is found by its key
-pub finds_slot : (index keys : List ℕ) (s : Slot) (r : Found) → IndexSound index keys → Has index keys s.0 → Finds index keys (cells keys s.0) r → r ≡ At s
-finds_slot index keys s r sound h f = finds_alike index index keys (cells keys s.0) r (At s) sound (λ x. (λ q. q, λ q. q)) f (h, refl)
+pub finds_slot : (index keys : List ℕ) (s : Slot) (r : Option Slot) → IndexSound index keys → Has index keys s.0 → Finds index keys (cells keys s.0) r → r ≡ Some s
+finds_slot index keys s r sound h f = finds_alike index index keys (cells keys s.0) r (Some s) sound (λ x. (λ q. q, λ q. q)) f (h, refl)

@@ -1,12 +1,11 @@
 -- What an index stands for, and what each call does to it. With C keys, `index[c]` is the first slot of class c, `index[C + s]` the slot after s in its class,
 -- NONE at the last one, and OUT where slot s is not in the index.
-use Rattle.std.specs.Prelude.{◌≡◌, ◌≢◌, ◌↔◌, ◌⊎◌, List, [], ◌∷◌, ℕ, ◌+◌, ◌≤◌, ◌<◌, length, get_or}
+use Rattle.std.specs.Prelude.{◌≡◌, ◌≢◌, ◌↔◌, ◌⊎◌, List, [], ◌∷◌, ℕ, ◌+◌, ◌≤◌, ◌<◌, length, get_or, Option, Some, None}
 use Rattle.numbers.specs.Marks.{LIMIT}
+use Rattle.numbers.specs.declared.Slot.{Slot}
 use Rattle.lists.specs.Lists.{All, In}
 use Rattle.links.specs.Chain.{Chain, cells}
 use Rattle.key_index.specs.Class.{class_of}
-use Rattle.key_index.specs.declared.Found.{Found}
-use Rattle.key_index.specs.declared.Found.TheVariants.{At, Nothing}
 
 -- the mark of a slot that is not in the index
 abbrev pub OUT : ℕ
@@ -47,9 +46,9 @@ pub record IndexSound (index keys : List ℕ) : Type 0 where
   pub listed : (s : ℕ) → Has index keys s → (ss : List ℕ) × Listed index keys (slot_class keys s) ss × In s ss
 
 -- `find`: a slot in the index with this key, or that there is none
-abbrev pub Finds : (index keys : List ℕ) → (key : ℕ) → Found → Type 0
-Finds index keys key (At s) = Has index keys s.0 × (cells keys s.0 ≡ key)
-Finds index keys key Nothing = Absent index keys key
+abbrev pub Finds : (index keys : List ℕ) → (key : ℕ) → Option Slot → Type 0
+Finds index keys key (Some s) = Has index keys s.0 × (cells keys s.0 ≡ key)
+Finds index keys key None = Absent index keys key
 
 -- `insert`: slot s is in too, if its key was not
 pub record Inserts (index keys : List ℕ) (s : ℕ) (index' : List ℕ) : Type 0 where

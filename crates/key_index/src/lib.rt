@@ -16,20 +16,6 @@ pub mod sound;
 // The mark of a slot that is not in the index. No link has this number.
 pub const OUT: u64 = 4097;
 
-// Where a key was found.
-#[derive(Clone, Copy)]
-pub enum Found {
-    At(Slot),
-    Nothing,
-}
-
-// How many slots a walk met, if it found nothing wrong.
-#[derive(Clone, Copy)]
-enum Met {
-    Slots(u64),
-    Fault,
-}
-
 // The class that a key belongs to, of `capacity` many.
 fn class_of(key: Key, capacity: u64) -> u64
     requires { 0 < capacity }
@@ -45,10 +31,7 @@ pub fn has(index: &[u64], slot: Slot) -> bool
 {
     let capacity = index.len() / 2;
     let s = slot.0 as usize;
-    if s < capacity {
-        return index[capacity + s] != OUT;
-    }
-    false
+    s < capacity && index[capacity + s] != OUT
 }
 
 // Puts every slot out of the index. Linear in its length.
@@ -56,10 +39,8 @@ pub fn clear(index: &mut [u64])
     ensures { Clears index.old index.new }
 {
     let half = index.len() / 2;
-    let mut i: usize = 0;
-    while i < index.len() {
-        index[i] = cleared_cell(half, i);
-        i += 1;
+    for (i, word) in index.iter_mut().enumerate() {
+        *word = cleared_cell(half, i);
     }
 }
 
@@ -67,10 +48,7 @@ pub fn clear(index: &mut [u64])
 fn cleared_cell(half: usize, i: usize) -> u64
     ensures { result ≡ cleared_cell half i }
 {
-    if i < half {
-        return NONE;
-    }
-    OUT
+    if i < half { NONE } else { OUT }
 }
 
 // Whether index and keys are those of some slots with distinct keys. Walks each class once and counts, with no memory of its own.
@@ -84,33 +62,26 @@ pub fn is_sound(index: &[u64], keys: &[u64]) -> bool
     if index.len() as u64 != capacity + capacity {
         return false;
     }
-    let met = count_classes(index, keys);
-    match met {
-        Met::Slots(n) => count_in(index, keys) == n,
-        Met::Fault => false,
+    match count_classes(index, keys) {
+        Some(n) => count_in(index, keys) == n,
+        None => false,
     }
 }
 
-// All classes, one after the other.
-fn count_classes(index: &[u64], keys: &[u64]) -> Met
+// How many slots all classes have, None where one of them is wrong.
+fn count_classes(index: &[u64], keys: &[u64]) -> Option<u64>
     requires { (length keys.now ≤ LIMIT) × (length index.now ≡ length keys.now + length keys.now) }
     ensures { CountsAll index.now keys.now result }
 {
     let mut n: u64 = 0;
-    let mut c: usize = 0;
-    while c < keys.len() {
-        let met = count_class(index, keys, c);
-        let Met::Slots(more) = met else {
-            return Met::Fault;
-        };
-        n += more;
-        c += 1;
+    for c in 0..keys.len() {
+        n += count_class(index, keys, c)?;
     }
-    Met::Slots(n)
+    Some(n)
 }
 
-// The slots of one class: each of that class, with a larger key than the one before.
-fn count_class(index: &[u64], keys: &[u64], class: usize) -> Met
+// How many slots one class has: each is of that class, with a larger key than the one before. None where that is not so.
+fn count_class(index: &[u64], keys: &[u64], class: usize) -> Option<u64>
     requires { (length keys.now ≤ LIMIT) × (length index.now ≡ length keys.now + length keys.now) × (class < length keys.now) }
     ensures { CountsClass index.now keys.now class result }
 {
@@ -118,18 +89,20 @@ fn count_class(index: &[u64], keys: &[u64], class: usize) -> Met
     let mut last = NONE as usize;
     let mut at = index[class] as usize;
     let mut steps: usize = 0;
+    // A `while`, since it follows links: no range and no iterator has the places.
     while at < capacity && steps < capacity {
         if !follows(keys, class, last, at) {
-            return Met::Fault;
+            return None;
         }
         last = at;
         at = index[capacity + at] as usize;
         steps += 1;
     }
     if at as u64 == NONE {
-        return Met::Slots(steps as u64);
+        Some(steps as u64)
+    } else {
+        None
     }
-    Met::Fault
 }
 
 // Whether slot s is of this class, with a larger key than slot `last`, if that is one.
@@ -138,13 +111,8 @@ fn follows(keys: &[u64], class: usize, last: usize, s: usize) -> bool
     ensures { (result ≡ true) ↔ Follows keys.now class last s }
 {
     let key = keys[s];
-    if class_of(Key(key), keys.len() as u64) as usize != class {
-        return false;
-    }
-    if last < keys.len() {
-        return keys[last] < key;
-    }
-    true
+    class_of(Key(key), keys.len() as u64) as usize == class
+        && (last >= keys.len() || keys[last] < key)
 }
 
 // How many slots are marked as in the index.
@@ -152,14 +120,8 @@ fn count_in(index: &[u64], keys: &[u64]) -> u64
     requires { (length keys.now ≤ LIMIT) × (length index.now ≡ length keys.now + length keys.now) }
     ensures { result ≡ in_index index.now keys.now }
 {
-    let capacity = keys.len();
-    let mut n: u64 = 0;
-    let mut i: usize = 0;
-    while i < capacity {
-        if index[capacity + i] != OUT {
-            n += 1;
-        }
-        i += 1;
-    }
-    n
+    index[keys.len()..]
+        .iter()
+        .filter(|link| **link != OUT)
+        .count() as u64
 }

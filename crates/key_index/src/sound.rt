@@ -3,7 +3,7 @@ ghost use Rattle.std.specs.Prelude.{◌<◌, length};
 ghost use Rattle.key_index.specs.Index.{Finds, Inserts, Removes, IndexSound};
 ghost use Rattle.key_index.specs.Places.{Places};
 
-use crate::{Found, OUT, class_of};
+use crate::{OUT, class_of};
 use numbers::{Key, Slot};
 
 // The word of `index` after which the key belongs: its class, or the link of the last slot with a smaller key.
@@ -14,6 +14,7 @@ fn place(index: &[u64], keys: &[u64], key: Key) -> usize
     let capacity = keys.len();
     let mut at = class_of(key, capacity as u64) as usize;
     let mut s = index[at] as usize;
+    // A `while`, since it follows links: no range and no iterator has the places.
     while s < capacity && keys[s] < key.0 {
         at = capacity + s;
         s = index[at] as usize;
@@ -22,21 +23,19 @@ fn place(index: &[u64], keys: &[u64], key: Key) -> usize
 }
 
 // The slot in the index whose key this is.
-pub fn find(index: &[u64], keys: &[u64], key: Key) -> Found
+pub fn find(index: &[u64], keys: &[u64], key: Key) -> Option<Slot>
     requires { IndexSound index.now keys.now }
     ensures { Finds index.now keys.now key.0 result }
 {
     if keys.len() == 0 {
-        return Found::Nothing;
+        return None;
     }
     let at = place(index, keys, key);
     let s = index[at] as usize;
-    if s < keys.len() {
-        if keys[s] == key.0 {
-            return Found::At(Slot(s as u64));
-        }
+    if s < keys.len() && keys[s] == key.0 {
+        return Some(Slot(s as u64));
     }
-    Found::Nothing
+    None
 }
 
 // Puts a slot in, under the key that `keys` has for it.

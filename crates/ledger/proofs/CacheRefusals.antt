@@ -7,8 +7,8 @@ use mathlib.Core.List.{List, [], ◌∷◌}
 use Prim.Native.Nat.{ℕ}
 use native.Mathlib.Omega.{arith}
 use lib.ListN.{length}
-use Rattle.numbers.specs.declared.Answer.{Answer}
-use Rattle.numbers.specs.declared.Answer.TheVariants.{Absent, Full, Empty}
+use Rattle.numbers.specs.declared.Refusal.{Refusal}
+use Rattle.numbers.specs.declared.Refusal.TheVariants.{Absent, Full, Empty}
 use Rattle.ledger.specs.Ledger.{Item, lookup, if_found, lowest, size}
 use Rattle.ledger.specs.Buckets.{refused}
 use Rattle.ledger.specs.Cache.{Cache, CacheFormed, insert_reply, Lookup, hit, miss, lookup_reply, Least, least, nothing, least_reply, insert_full, insert_new, insert_at, cache_insert, cache_get, cache_peek, cache_remove, cache_reset, cache_peek_lfu, cache_evict}
@@ -27,12 +27,12 @@ hit_or o c v m = if_found {A = Lookup × Cache} o (miss, c) (λ x. (hit (v x), m
 abbrev least_or : Option Item → Cache → (Item → ℕ) → (Item → Cache) → Least × Cache
 least_or o c v m = if_found {A = Least × Cache} o (nothing, c) (λ x. (least x.key (v x), m x))
 
-missed : (o : Option Item) (c : Cache) (v : Item → ℕ) (m : Item → Cache) (a : Answer) → lookup_reply (hit_or o c v m).0 ≡ refused a →
+missed : (o : Option Item) (c : Cache) (v : Item → ℕ) (m : Item → Cache) (a : Refusal) → lookup_reply (hit_or o c v m).0 ≡ refused a →
     (o ≡ none) × (Absent ≡ a) × ((hit_or o c v m).1 ≡ c)
 missed none c v m a e = (refl, same_refusal Absent a e, refl)
 missed (some x) c v m a e = done_refused (v x ∷ []) a e
 
-none_least : (o : Option Item) (c : Cache) (v : Item → ℕ) (m : Item → Cache) (a : Answer) → least_reply (least_or o c v m).0 ≡ refused a →
+none_least : (o : Option Item) (c : Cache) (v : Item → ℕ) (m : Item → Cache) (a : Refusal) → least_reply (least_or o c v m).0 ≡ refused a →
     (o ≡ none) × (Empty ≡ a) × ((least_or o c v m).1 ≡ c)
 none_least none c v m a e = (refl, same_refusal Empty a e, refl)
 none_least (some x) c v m a e = done_refused _ a e
@@ -40,7 +40,7 @@ none_least (some x) c v m a e = done_refused _ a e
 module _ (c : Cache) (w : CacheFormed c) where
   -- `insert` is FULL for an unbound key at capacity 0 alone
 
-  full_why : (k v : ℕ) (o : Option Item) (a : Answer) → lowest c.table.levels ≡ o → c.table.free ≡ [] →
+  full_why : (k v : ℕ) (o : Option Item) (a : Refusal) → lowest c.table.levels ≡ o → c.table.free ≡ [] →
       insert_reply (insert_full o k v c).0 ≡ refused a → (c.table.capacity ≡ 0) × (Full ≡ a) × ((insert_full o k v c).1 ≡ c)
   full_why k v none a e f h =
       let p = size_and_free c.table w.table in
@@ -49,12 +49,12 @@ module _ (c : Cache) (w : CacheFormed c) where
       (omega arith, same_refusal Full a h, refl)
   full_why k v (some x) a e f h = done_refused _ a h
 
-  new_why : (k v : ℕ) (free : List ℕ) (a : Answer) → c.table.free ≡ free → insert_reply (insert_new free k v c).0 ≡ refused a →
+  new_why : (k v : ℕ) (free : List ℕ) (a : Refusal) → c.table.free ≡ free → insert_reply (insert_new free k v c).0 ≡ refused a →
       (c.table.capacity ≡ 0) × (Full ≡ a) × ((insert_new free k v c).1 ≡ c)
   new_why k v [] a f h = full_why k v (lowest c.table.levels) a refl f h
   new_why k v (s ∷ rest) a f h = done_refused _ a h
 
-  at_why : (k v : ℕ) (o : Option Item) (a : Answer) → insert_reply (insert_at o k v c).0 ≡ refused a →
+  at_why : (k v : ℕ) (o : Option Item) (a : Refusal) → insert_reply (insert_at o k v c).0 ≡ refused a →
       (o ≡ none) × (c.table.capacity ≡ 0) × (Full ≡ a) × ((insert_at o k v c).1 ≡ c)
   at_why k v none a h = let r = new_why k v c.table.free a refl h in (refl, r.0, r.1, r.2)
   at_why k v (some x) a h = done_refused _ a h
@@ -69,17 +69,17 @@ module _ (c : Cache) (w : CacheFormed c) where
   new_by k v (s ∷ rest) f h = let p = size_and_free c.table w.table in let q = ap length f in absurd (omega arith)
 
   -- why a call was refused, and that it left the cache
-  key_why : (k : ℕ) (call : CacheCall) (v : Item → ℕ) (m : Item → Cache) (a : Answer) → (Unbound k c.table → CacheRefused c call Absent) →
+  key_why : (k : ℕ) (call : CacheCall) (v : Item → ℕ) (m : Item → Cache) (a : Refusal) → (Unbound k c.table → CacheRefused c call Absent) →
       lookup_reply (hit_or (lookup k c.table) c v m).0 ≡ refused a → CacheRefused c call a × ((hit_or (lookup k c.table) c v m).1 ≡ c)
   key_why k call v m a r e =
       let p = missed (lookup k c.table) c v m a e in (subst (CacheRefused c call) p.1 (r (unbound_of c.table w.table k p.0)), p.2)
 
-  least_why : (call : CacheCall) (v : Item → ℕ) (m : Item → Cache) (a : Answer) → (size c.table ≡ 0 → CacheRefused c call Empty) →
+  least_why : (call : CacheCall) (v : Item → ℕ) (m : Item → Cache) (a : Refusal) → (size c.table ≡ 0 → CacheRefused c call Empty) →
       least_reply (least_or (lowest c.table.levels) c v m).0 ≡ refused a → CacheRefused c call a × ((least_or (lowest c.table.levels) c v m).1 ≡ c)
   least_why call v m a r e =
       let p = none_least (lowest c.table.levels) c v m a e in (subst (CacheRefused c call) p.1 (r (empty_of c.table w.table p.0)), p.2)
 
-  why : (call : CacheCall) (a : Answer) → event_reply (does call c).0 ≡ refused a → CacheRefused c call a × ((does call c).1 ≡ c)
+  why : (call : CacheCall) (a : Refusal) → event_reply (does call c).0 ≡ refused a → CacheRefused c call a × ((does call c).1 ≡ c)
   unfolding does cache_insert cache_get cache_peek cache_remove cache_reset cache_peek_lfu cache_evict
   why (Insert k v) a e =
       let p = at_why k v (lookup k c.table) a e in
@@ -99,7 +99,7 @@ module _ (c : Cache) (w : CacheFormed c) where
   nothing_least : (v : Item → ℕ) (m : Item → Cache) → size c.table ≡ 0 → least_reply (least_or (lowest c.table.levels) c v m).0 ≡ refused Empty
   nothing_least v m h = ap (λ o. least_reply (least_or o c v m).0) (of_empty c.table w.table h)
 
-  refuses : (call : CacheCall) (a : Answer) → CacheRefused c call a → event_reply (does call c).0 ≡ refused a
+  refuses : (call : CacheCall) (a : Refusal) → CacheRefused c call a → event_reply (does call c).0 ≡ refused a
   unfolding does cache_insert cache_get cache_peek cache_remove cache_reset cache_peek_lfu cache_evict
   refuses _ _ (gets k h) = nothing_hit k _ _ h
   refuses _ _ (peeks k h) = nothing_hit k _ _ h
@@ -111,10 +111,10 @@ module _ (c : Cache) (w : CacheFormed c) where
   refuses _ _ (evicts h) = nothing_least _ _ h
 
   -- Each refusal of the cache is given exactly when document 01 says.
-  pub cache_refused_exactly : (call : CacheCall) (a : Answer) → (event_reply (does call c).0 ≡ refused a) ↔ CacheRefused c call a
+  pub cache_refused_exactly : (call : CacheCall) (a : Refusal) → (event_reply (does call c).0 ≡ refused a) ↔ CacheRefused c call a
   cache_refused_exactly call a = (λ e. (why call a e).0, refuses call a)
 
-  pub cache_refused_leaves : (call : CacheCall) (a : Answer) → event_reply (does call c).0 ≡ refused a → (does call c).1 ≡ c
+  pub cache_refused_leaves : (call : CacheCall) (a : Refusal) → event_reply (does call c).0 ≡ refused a → (does call c).1 ≡ c
   cache_refused_leaves call a e = (why call a e).1
 
 -- Queries leave the cache

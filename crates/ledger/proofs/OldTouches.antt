@@ -6,7 +6,7 @@ use Prim.Native.Nat.{ℕ, ◌≤◌, ◌+◌}
 use native.Mathlib.Omega.{arith}
 use lib.Dec.{ltb}
 use Rattle.numbers.specs.Frequency.{CEILING, raised, cap_of}
-use Rattle.numbers.specs.declared.Answer.TheVariants.{Absent}
+use Rattle.numbers.specs.declared.Refusal.TheVariants.{Absent}
 use Rattle.lists.proofs.Tests.{by_lt, if_less, if_not_less}
 use Rattle.ledger.specs.Ledger.{Ledger, Item, lookup, if_found}
 use Rattle.ledger.specs.Buckets.{Outcome, refused, touch}

@@ -7,8 +7,8 @@ use mathlib.Core.List.{List, [], ◌∷◌}
 use Prim.Native.Nat.{ℕ}
 use native.Mathlib.Omega.{arith}
 use lib.ListN.{length}
-use Rattle.numbers.specs.declared.Answer.{Answer}
-use Rattle.numbers.specs.declared.Answer.TheVariants.{Absent, Present, Full, Empty}
+use Rattle.numbers.specs.declared.Refusal.{Refusal}
+use Rattle.numbers.specs.declared.Refusal.TheVariants.{Absent, Present, Full, Empty}
 use Rattle.ledger.specs.Ledger.{Ledger, Item, items, lookup, if_found, size, lowest, WellFormed}
 use Rattle.ledger.specs.Buckets.{Outcome, done, refused, insert_as, insert, touch, remove, pop_min, peek_min, min_freq, frequency, entry_epoch, set_entry_epoch, current_epoch, set_epoch, advance_epoch, len, is_empty, contains, clear, insert_batch, touch_batch, remove_batch}
 use Rattle.ledger.specs.Regroup.{decay_halve, decay_halve_times, rebase_min_freq}
@@ -24,24 +24,24 @@ use Rattle.ledger.proofs.Walked.{step_absent}
 
 -- What is done is not refused
 
-pub done_refused : {A : Type 0} (ns : List ℕ) (a : Answer) → done ns ≡ refused a → A
+pub done_refused : {A : Type 0} (ns : List ℕ) (a : Refusal) → done ns ≡ refused a → A
 done_refused ns a e = let z : ◌≡◌ {A = ℕ} 0 1 = cc in absurd (omega arith)
 
-pub same_refusal : (a b : Answer) → refused a ≡ refused b → a ≡ b
+pub same_refusal : (a b : Refusal) → refused a ≡ refused b → a ≡ b
 same_refusal a b e = cc
 
 -- a call that is done where an item is found
-abbrev outcome : Option Item → Answer → Ledger → (Item → List ℕ) → (Item → Ledger) → Outcome
+abbrev outcome : Option Item → Refusal → Ledger → (Item → List ℕ) → (Item → Ledger) → Outcome
 outcome o why l ns m = if_found {A = Outcome} o (refused why, l) (λ x. (done (ns x), m x))
 
 -- a refusal from a choice by what is found says that nothing was, and gives the one reason
-pub no_item : (o : Option Item) (why a : Answer) (l : Ledger) (ns : Item → List ℕ) (m : Item → Ledger) →
+pub no_item : (o : Option Item) (why a : Refusal) (l : Ledger) (ns : Item → List ℕ) (m : Item → Ledger) →
     (outcome o why l ns m).0 ≡ refused a → (o ≡ none) × (why ≡ a)
 no_item none why a l ns m e = (refl, same_refusal why a e)
 no_item (some x) why a l ns m e = done_refused (ns x) a e
 
 -- what a query or a change of the kind gives where nothing is found
-nothing_found : (o : Option Item) (why : Answer) (l : Ledger) (f : Item → Outcome) → o ≡ none → (if_found o (refused why, l) f).0 ≡ refused why
+nothing_found : (o : Option Item) (why : Refusal) (l : Ledger) (f : Item → Outcome) → o ≡ none → (if_found o (refused why, l) f).0 ≡ refused why
 nothing_found o why l f e = ap (λ z. (if_found z (refused why, l) f).0) e
 
 found_some : (o : Option Item) → (o ≡ none → ⊥) → (x : Item) × (o ≡ some x)
@@ -71,7 +71,7 @@ module _ (l : Ledger) (w : WellFormed l) where
 
   -- `insert`: PRESENT before FULL
 
-  insert_as_refused : (k : ℕ) (o : Option Item) (free : List ℕ) (a : Answer) → lookup k l ≡ o → l.free ≡ free →
+  insert_as_refused : (k : ℕ) (o : Option Item) (free : List ℕ) (a : Refusal) → lookup k l ≡ o → l.free ≡ free →
       (insert_as o free k l).0 ≡ refused a → Refused l (Insert k) a
   insert_as_refused k (some x) free a e f h =
       let p = found_in k (items l.levels) x e in
@@ -93,12 +93,12 @@ module _ (l : Ledger) (w : WellFormed l) where
 
   -- the walk's step
 
-  step_refused : (s : ℕ) (t : Step) (a : Answer) → step_reply t ≡ refused a → (t ≡ absent) × (Absent ≡ a)
+  step_refused : (s : ℕ) (t : Step) (a : Refusal) → step_reply t ≡ refused a → (t ≡ absent) × (Absent ≡ a)
   step_refused s (here x) a e = done_refused _ a e
   step_refused s no_more a e = done_refused _ a e
   step_refused s absent a e = (refl, same_refusal Absent a e)
 
-  start_done : (f : ℕ) (a : Answer) → step_reply (start f l) ≡ refused a → ⊥
+  start_done : (f : ℕ) (a : Refusal) → step_reply (start f l) ≡ refused a → ⊥
   unfolding start
   start_done f a e = go (Rattle.ledger.specs.Walk.list_of f l.levels) e
     where
@@ -107,17 +107,17 @@ module _ (l : Ledger) (w : WellFormed l) where
       go (x ∷ xs) q = done_refused _ a q
 
   -- a refusal of a call that needs a key says that the key is unbound
-  needs_key : (k : ℕ) (c : BucketCall) (a : Answer) (ns : Item → List ℕ) (m : Item → Ledger) → (Unbound k l → Refused l c Absent) →
+  needs_key : (k : ℕ) (c : BucketCall) (a : Refusal) (ns : Item → List ℕ) (m : Item → Ledger) → (Unbound k l → Refused l c Absent) →
       (outcome (lookup k l) Absent l ns m).0 ≡ refused a → Refused l c a
   needs_key k c a ns m r e =
       let p = no_item (lookup k l) Absent a l ns m e in subst (Refused l c) p.1 (r (unbound_of k p.0))
 
-  needs_any : (c : BucketCall) (a : Answer) (ns : Item → List ℕ) (m : Item → Ledger) → (size l ≡ 0 → Refused l c Empty) →
+  needs_any : (c : BucketCall) (a : Refusal) (ns : Item → List ℕ) (m : Item → Ledger) → (size l ≡ 0 → Refused l c Empty) →
       (outcome (lowest l.levels) Empty l ns m).0 ≡ refused a → Refused l c a
   needs_any c a ns m r e =
       let p = no_item (lowest l.levels) Empty a l ns m e in subst (Refused l c) p.1 (r (empty_of p.0))
 
-  asks_why : (q : Query) (a : Answer) → (asks q l).0 ≡ refused a → Refused l (Ask q) a
+  asks_why : (q : Query) (a : Refusal) → (asks q l).0 ≡ refused a → Refused l (Ask q) a
   unfolding asks peek_min min_freq frequency entry_epoch current_epoch len is_empty contains bucket_len len_up_to
   asks_why PeekMin a e = needs_any (Ask PeekMin) a _ _ peeks e
   asks_why MinFreq a e = needs_any (Ask MinFreq) a _ _ asks_lowest e
@@ -133,7 +133,7 @@ module _ (l : Ledger) (w : WellFormed l) where
   asks_why (BucketLen f) a e = done_refused _ a e
   asks_why (LenUpTo f) a e = done_refused _ a e
 
-  why : (c : BucketCall) (a : Answer) → (calls c l).0 ≡ refused a → Refused l c a
+  why : (c : BucketCall) (a : Refusal) → (calls c l).0 ≡ refused a → Refused l c a
   unfolding calls insert touch remove pop_min set_entry_epoch set_epoch advance_epoch clear decay_halve decay_halve_times rebase_min_freq insert_batch touch_batch remove_batch
   why (Ask q) a e = asks_why q a e
   why (Insert k) a e = insert_as_refused k (lookup k l) l.free a refl refl e
@@ -151,7 +151,7 @@ module _ (l : Ledger) (w : WellFormed l) where
   why (TouchBatch ks) a e = done_refused _ a e
   why (RemoveBatch ks) a e = done_refused _ a e
 
-  refuses : (c : BucketCall) (a : Answer) → Refused l c a → (calls c l).0 ≡ refused a
+  refuses : (c : BucketCall) (a : Refusal) → Refused l c a → (calls c l).0 ≡ refused a
   unfolding asks calls insert touch remove pop_min peek_min min_freq frequency entry_epoch set_entry_epoch
   refuses _ _ (touches cap k h) = nothing_found (lookup k l) Absent l _ (of_unbound k h)
   refuses _ _ (removes k h) = nothing_found (lookup k l) Absent l _ (of_unbound k h)
@@ -166,22 +166,22 @@ module _ (l : Ledger) (w : WellFormed l) where
   refuses _ _ (asks_lowest h) = nothing_found (lowest l.levels) Empty l _ (of_empty h)
 
   -- Each refusal is given exactly when document 01 says.
-  pub refused_exactly : (c : BucketCall) (a : Answer) → ((calls c l).0 ≡ refused a) ↔ Refused l c a
+  pub refused_exactly : (c : BucketCall) (a : Refusal) → ((calls c l).0 ≡ refused a) ↔ Refused l c a
   refused_exactly c a = (why c a, refuses c a)
 
 -- A refused call leaves the ledger
 
-insert_as_leaves : (k : ℕ) (l : Ledger) (o : Option Item) (free : List ℕ) (a : Answer) → (insert_as o free k l).0 ≡ refused a → (insert_as o free k l).1 ≡ l
+insert_as_leaves : (k : ℕ) (l : Ledger) (o : Option Item) (free : List ℕ) (a : Refusal) → (insert_as o free k l).0 ≡ refused a → (insert_as o free k l).1 ≡ l
 insert_as_leaves k l (some x) free a e = refl
 insert_as_leaves k l none [] a e = refl
 insert_as_leaves k l none (s ∷ rest) a e = done_refused [] a e
 
-found_leaves : (o : Option Item) (y a : Answer) (l : Ledger) (ns : Item → List ℕ) (m : Item → Ledger) →
+found_leaves : (o : Option Item) (y a : Refusal) (l : Ledger) (ns : Item → List ℕ) (m : Item → Ledger) →
     (outcome o y l ns m).0 ≡ refused a → (outcome o y l ns m).1 ≡ l
 found_leaves none y a l ns m e = refl
 found_leaves (some x) y a l ns m e = done_refused (ns x) a e
 
-pub refused_leaves : (c : BucketCall) (l : Ledger) (a : Answer) → (calls c l).0 ≡ refused a → (calls c l).1 ≡ l
+pub refused_leaves : (c : BucketCall) (l : Ledger) (a : Refusal) → (calls c l).0 ≡ refused a → (calls c l).1 ≡ l
 unfolding calls insert touch remove pop_min set_entry_epoch set_epoch advance_epoch clear decay_halve decay_halve_times rebase_min_freq insert_batch touch_batch remove_batch
 refused_leaves (Ask q) l a e = queries_leave q l
 refused_leaves (Insert k) l a e = insert_as_leaves k l (lookup k l) l.free a e

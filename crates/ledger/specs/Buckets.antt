@@ -1,24 +1,21 @@
 -- The calls of `FrequencyBuckets`, each a function from a ledger to a reply and the ledger after it.
 use Rattle.std.specs.Prelude.{Bool, true, false, cond, List, [], ◌∷◌, ℕ, ◌+◌, ◌^◌, ◌%◌, eqb}
 use Rattle.std.proofs.Math.Option.{Option, none, some}
-use Rattle.numbers.specs.Answer.{number_of}
-use Rattle.numbers.specs.declared.Answer.{Answer}
-use Rattle.numbers.specs.declared.Answer.TheVariants.{Done, Absent, Present, Full, Empty}
+use Rattle.numbers.specs.Answer.{DONE, number_of}
+use Rattle.numbers.specs.declared.Refusal.{Refusal}
+use Rattle.numbers.specs.declared.Refusal.TheVariants.{Absent, Present, Full, Empty}
 use Rattle.numbers.specs.Frequency.{CEILING, raised, cap_of}
 use Rattle.ledger.specs.Ledger.{Entry, Level, Ledger, Item, new, lookup, if_found, size, lowest, put, release, move}
 
 -- DONE with the numbers of the answer, or a refusal, beside which no number stands
 pub data Reply : Type 0 where
   done : List ℕ → Reply
-  refused : Answer → Reply
+  refused : Refusal → Reply
 
--- document 01's answer, and its number
-abbrev pub answer : Reply → Answer
-answer (done ns) = Done
-answer (refused a) = a
-
+-- document 01's number of the answer
 abbrev pub number : Reply → ℕ
-number r = number_of (answer r)
+number (done ns) = DONE
+number (refused a) = number_of a
 
 abbrev pub Outcome : Type 0
 Outcome = Reply × Ledger

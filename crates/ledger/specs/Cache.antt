@@ -2,7 +2,7 @@
 use Rattle.std.specs.Prelude.{◌≡◌, List, [], ◌∷◌, ℕ, ◌+◌, length, get_or, set, replicate}
 use Rattle.std.proofs.Math.Option.{Option, none, some}
 use Rattle.numbers.specs.Frequency.{CEILING, raised}
-use Rattle.numbers.specs.declared.Answer.TheVariants.{Absent, Full, Empty}
+use Rattle.numbers.specs.declared.Refusal.TheVariants.{Absent, Full, Empty}
 use Rattle.lists.specs.Lists.{times}
 use Rattle.ledger.specs.Ledger.{Ledger, Item, WellFormed, new, lookup, if_found, size, lowest, put, release, move, restart}
 use Rattle.ledger.specs.Buckets.{Reply, done, refused}

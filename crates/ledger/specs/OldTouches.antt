@@ -1,7 +1,7 @@
 -- The two touches of document 01 as it words them, before they became one: what the one call is held to.
 use Rattle.std.specs.Prelude.{cond, [], ◌∷◌, ℕ, ◌+◌, ltb}
 use Rattle.numbers.specs.Frequency.{CEILING, cap_of}
-use Rattle.numbers.specs.declared.Answer.TheVariants.{Absent}
+use Rattle.numbers.specs.declared.Refusal.TheVariants.{Absent}
 use Rattle.ledger.specs.Ledger.{Ledger, Item, lookup, if_found, move}
 use Rattle.ledger.specs.Buckets.{Outcome, done, refused}
 

@@ -1,8 +1,8 @@
 -- The "exactly when" column of document 01's table, for the calls of the buckets and of the cache. That each call is refused
 -- exactly then is `refused_exactly` of proofs/Refusals.antt and `cache_refused_exactly` of proofs/CacheRefusals.antt.
 use Rattle.std.specs.Prelude.{◌≡◌, ℕ, ◌≤◌}
-use Rattle.numbers.specs.declared.Answer.{Answer}
-use Rattle.numbers.specs.declared.Answer.TheVariants.{Absent, Present, Full, Empty}
+use Rattle.numbers.specs.declared.Refusal.{Refusal}
+use Rattle.numbers.specs.declared.Refusal.TheVariants.{Absent, Present, Full, Empty}
 use Rattle.ledger.specs.Ledger.{Ledger, items, size, keyed, slotted}
 use Rattle.ledger.specs.BucketCalls.{PeekMin, MinFreq, Frequency, EntryEpoch, WalkStep, BucketCall, Ask, Insert, Touch, Remove, PopMin, SetEntryEpoch}
 use Rattle.ledger.specs.Cache.{Cache}
@@ -15,7 +15,7 @@ Bound k l = 1 ≤ keyed k (items l.levels)
 abbrev pub Unbound : ℕ → Ledger → Type 0
 Unbound k l = keyed k (items l.levels) ≡ 0
 
-pub data Refused (l : Ledger) : BucketCall → Answer → Type 0 where
+pub data Refused (l : Ledger) : BucketCall → Refusal → Type 0 where
   -- the key is not bound, in a call that needs it; a walk's step from no bound slot
   touches : (cap k : ℕ) → Unbound k l → Refused l (Touch cap k) Absent
   removes : (k : ℕ) → Unbound k l → Refused l (Remove k) Absent
@@ -31,7 +31,7 @@ pub data Refused (l : Ledger) : BucketCall → Answer → Type 0 where
   peeks : size l ≡ 0 → Refused l (Ask PeekMin) Empty
   asks_lowest : size l ≡ 0 → Refused l (Ask MinFreq) Empty
 
-pub data CacheRefused (c : Cache) : CacheCall → Answer → Type 0 where
+pub data CacheRefused (c : Cache) : CacheCall → Refusal → Type 0 where
   -- the key is not bound
   gets : (k : ℕ) → Unbound k c.table → CacheRefused c (History.Get k) Absent
   peeks : (k : ℕ) → Unbound k c.table → CacheRefused c (History.Peek k) Absent

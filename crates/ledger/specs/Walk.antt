@@ -1,6 +1,6 @@
 -- The walk of one frequency: its keys with slot, frequency and epoch, head first.
 use Rattle.std.specs.Prelude.{◌≡◌, cond, List, [], ◌∷◌, ℕ, eqb}
-use Rattle.numbers.specs.declared.Answer.TheVariants.{Absent}
+use Rattle.numbers.specs.declared.Refusal.TheVariants.{Absent}
 use Rattle.ledger.specs.Ledger.{Level, Ledger, Item, tag, items}
 use Rattle.ledger.specs.Buckets.{Reply, done, refused}
 

@@ -1,15 +1,16 @@
 -- What the tests of the calls say of the levels.
 use mathlib.Core.Path.{◌≡◌, refl, sym, ap, ◌∙◌, subst}
 use mathlib.Core.Bool.{Bool, true, false, cond}
-use mathlib.Core.Logic.{◌≢◌, ◌↔◌}
+use mathlib.Core.Logic.{◌≢◌}
 use mathlib.Core.List.{List, [], ◌∷◌, ◌++◌}
 use Prim.Native.Nat.{ℕ, ◌<◌, ◌≤◌}
 use native.Mathlib.Omega.{arith}
 use lib.ListN.{length, get_or}
 use lib.Dec.{eqb}
-use borrow.Author.Tests.{eq-eqb, eqb-true}
+use Rattle.std.specs.Prelude.{Some, None}
+use Rattle.numbers.specs.declared.Slot.{Slot}
 use Rattle.numbers.specs.Marks.{NONE}
-use Rattle.lists.proofs.Tests.{neither, said_no, by_lt, if_same, if_other}
+use Rattle.lists.proofs.Tests.{by_lt, if_same, if_other}
 use Rattle.lists.specs.Lists.{All, final}
 use Rattle.lists.proofs.Members.{all_map}
 use Rattle.links.specs.Linked.{Ring, linked}
@@ -21,19 +22,10 @@ use Rattle.bucket_table.specs.Records.{nums, frequency, higher, head, tail, up, 
 use Rattle.bucket_table.specs.Calls.{HasLevel, PlacesRecord}
 use Rattle.bucket_table.proofs.Rows.{rising_around, rising_above, at_spot, above_spot, above_none, above_row, row_some}
 use Rattle.levels.specs.Levels.{Level, first, lowest, lowest_frequency, head_of, slot_list}
+use Rattle.levels.specs.Held as held
 use Rattle.levels.specs.Held.{Tabs, tabs, Line, rows, view, Lines, Held}
-use Rattle.levels.specs.Calls.{InPlace, SoundWith, Lowest, LowestFrequency, Heads, LevelEnds, Counts}
-use Rattle.levels.proofs.Lines.{rows_append, view_append, all_view, rows_all, all_rows, lines_room, records_mid, line_in, number_in, written}
-
-pub no_answer : {A : Type 0} → false ≡ true → A
-no_answer q = absurd (neither false q refl)
-
-pub in_place : (b : List ℕ) (s : Buckets) (r g : ℕ) (e : Ends) (n : ℕ) (t : Bool) → EndsAt b r e → e.head ≡ e.tail → n ≡ up b s r → (t ≡ true) ↔ HasLevel b n g → t ≡ false
-    → InPlace b s r g
-in_place b s r g e n t read q en l nay = record { lone = sym read.0 ∙ q ∙ read.1; gap = λ h. said_no (HasLevel b n g) l nay (rw en h) }
-
-pub free_test : (n : List ℕ) (x : ℕ) → x < length n → (eqb (get_or n x 0) x ≡ true) ↔ ((x < length n) × (get_or n x 0 ≡ x))
-free_test n x l = (λ q. (l, eqb-true (get_or n x 0) x q), λ h. eq-eqb (get_or n x 0) x h.1)
+use Rattle.levels.specs.Calls.{SoundWith, Lowest, LowestFrequency, Heads, LevelEnds, Counts}
+use Rattle.levels.proofs.Lines.{rows_append, view_append, all_view, rows_all, all_rows, lines_room, records_mid, line_in, number_in, written, final_slot}
 
 -- ---- the ends of a line
 
@@ -82,13 +74,24 @@ module _ (t : Tabs) (s : Buckets) where
       go [] k = absurd (ne (bottom_none k))
       go (l ∷ ks) k = rw (bottom_row l ks k) (number_in t s [] l ks k)
 
-module _ (b : List ℕ) (s : Buckets) where
-  pub low_none : s.bottom ≡ NONE → Lowest b s NONE
-  low_none e = record { answer = λ f p n sp. none_answer (tabs f p n b sp) s lowest NONE refl e }
+  -- the tail of the lowest level is a slot
+  lowest_slot : s.bottom ≢ NONE → (ls : List Level) → Held t s ls → lowest ls ≢ NONE
+  lowest_slot ne ls h = subst (λ (ks : List Level). lowest ks ≢ NONE) h.seen (go h.lines h.rep h.some)
+    where
+      go : (ks : List Line) → Lines t s ks → All held.Some ks → lowest (view ks) ≢ NONE
+      go [] k a = absurd (ne (bottom_none k))
+      go (l ∷ ks) k a = final_slot (length t.prevs) (lines_room t s (l ∷ ks) k) l.slots (line_in t s [] l ks k).ring.slots a.0
 
-  pub low_tail : (v : ℕ) → s.bottom ≢ NONE → v ≡ tail b s.bottom → Lowest b s v
-  low_tail v ne e = record {
-    answer = λ f p n sp. bottom_answer (tabs f p n b sp) s lowest v (λ l ls h q. e ∙ ap (tail b) q ∙ tail_is (tabs f p n b sp) s [] l ls h) ne;
+module _ (b : List ℕ) (s : Buckets) where
+  pub low_none : s.bottom ≡ NONE → Lowest b s None
+  low_none e = record { answer = λ f p n sp ls h. sym (none_answer (tabs f p n b sp) s lowest NONE refl e ls h) }
+
+  pub low_tail : (x : Slot) → s.bottom ≢ NONE → x.0 ≡ tail b s.bottom → Lowest b s (Some x)
+  low_tail x ne e = record {
+    answer = λ f p n sp ls h. (
+      bottom_answer (tabs f p n b sp) s lowest x.0 (λ l ks k q. e ∙ ap (tail b) q ∙ tail_is (tabs f p n b sp) s [] l ks k) ne ls h,
+      lowest_slot (tabs f p n b sp) s ne ls h,
+    );
   }
 
   pub low_no_frequency : s.bottom ≡ NONE → LowestFrequency b s 0
@@ -204,8 +207,15 @@ module _ (b : List ℕ) (s : Buckets) (g at n : ℕ) (pl : PlacesRecord b s g at
         (ap first (sym z), ap length (sym z)));
   }
 
-pub heads : (b : List ℕ) (s : Buckets) (g : ℕ) (e : Ends) → LevelEnds b s g e → Heads b s g e.head
-heads b s g e l = record { answer = λ f p n sp ls h. (l.answer f p n sp ls h).0 ∙ sym (head_slots g ls) }
+module _ (b : List ℕ) (s : Buckets) (g : ℕ) (e : Ends) (l : LevelEnds b s g e) where
+  head_read : (f p n sp : List ℕ) (ls : List Level) → Held (tabs f p n b sp) s ls → e.head ≡ head_of g ls
+  head_read f p n sp ls h = (l.answer f p n sp ls h).0 ∙ sym (head_slots g ls)
+
+  pub head_none : e.head ≡ NONE → Heads b s g None
+  head_none q = record { answer = λ f p n sp ls h. sym (head_read f p n sp ls h) ∙ q }
+
+  pub head_some : (x : Slot) → x.0 ≡ e.head → e.head ≢ NONE → Heads b s g (Some x)
+  head_some x ex ne = record { answer = λ f p n sp ls h. let r = head_read f p n sp ls h in (ex ∙ r, λ q. ne (r ∙ q)) }
 
 pub counts : (b : List ℕ) (s : Buckets) (g : ℕ) (e : Ends) → LevelEnds b s g e → Counts b s g e.count
 counts b s g e l = record { answer = λ f p n sp ls h. (l.answer f p n sp ls h).1 }

@@ -18,7 +18,6 @@ use Rattle.links.proofs.Lists.{ring_distinct, ring_tail}
 use Rattle.bucket_table.specs.declared.Buckets.{Buckets}
 use Rattle.bucket_table.specs.Records.{Row, row, nums, frequency, owner, up, Spot, RecordsHold}
 use Rattle.bucket_table.proofs.Rows.{nums_append, rising_around, rising_above, next_row, row_in, row_some, row_written, above_spot}
-use Rattle.levels.specs.declared.Left.{Left}
 use Rattle.levels.specs.Levels.{Level, level, Nowhere, keep, join, touched}
 use Rattle.levels.specs.Held.{Tabs, tabs, Line, line, rows, Held, Parted}
 use Rattle.levels.specs.Calls.{Fronts, InPlace, Lifts, Ready, Binding, Unbinds, SlotBound, LevelTouches, LevelRestarts, LevelBinds, LevelLeaves, LevelEnters}
@@ -76,8 +75,8 @@ lone p n e room (u ∷ us) x ys h q =
 -- ---- `touch`
 
 -- a slot that has left is ready to enter
-pub left_ready : (t : Tabs) (s : Buckets) (x : ℕ) (t₁ : Tabs) (o : Left) → LevelLeaves t s x t₁ o → SlotBound t s x → Ready t₁ o.state o.at x
-left_ready t s x t₁ o d b = record {
+pub left_ready : (t : Tabs) (s : Buckets) (x : ℕ) (t₁ : Tabs) (at₁ : ℕ) (s₁ : Buckets) → LevelLeaves t s x t₁ at₁ s₁ → SlotBound t s x → Ready t₁ s₁ at₁ x
+left_ready t s x t₁ at₁ s₁ d b = record {
   us = b.us ++ keep b.freq (b.xs ++ b.ys) [];
   vs = b.vs;
   parted = d.holds b.us b.freq b.xs b.ys b.vs b.held;
@@ -99,7 +98,7 @@ module _ (t : Tabs) (s : Buckets) (x cap r : ℕ) (er : r ≡ owner t.buckets x)
       let k = split_at t s us f xs x ys vs r er h in ef ∙ (written t s k.lower (line (row r f k.ends) (xs ++ x ∷ ys)) k.upper k.rep).freq_is
 
   -- at the cap or above
-  pub touch_front : cap ≤ f₀.0 → (p' n' b' : List ℕ) → Fronts t.prevs t.nexts t.buckets r x p' n' b' → LevelTouches t s x cap (tabs t.freqs p' n' b' t.spares) (record { frequency = f₀; state = s })
+  pub touch_front : cap ≤ f₀.0 → (p' n' b' : List ℕ) → Fronts t.prevs t.nexts t.buckets r x p' n' b' → LevelTouches t s x cap (tabs t.freqs p' n' b' t.spares) f₀ s
   touch_front le p' n' b' d = record {
     answer = λ us f xs ys vs h. let e = is_level us f xs ys vs h in e ∙ sym (if_not_less f cap (f + 1) f (omega arith));
     holds = λ us f xs ys vs h.
@@ -145,7 +144,7 @@ module _ (t : Tabs) (s : Buckets) (x cap r : ℕ) (er : r ≡ owner t.buckets x)
 
     -- alone, with room above
     pub touch_lift : (f' b' : List ℕ) → InPlace t.buckets s r f₁.0 → Lifts t.freqs t.buckets r f₁.0 x f' b'
-        → LevelTouches t s x cap (tabs f' t.prevs t.nexts b' t.spares) (record { frequency = f₁; state = s })
+        → LevelTouches t s x cap (tabs f' t.prevs t.nexts b' t.spares) f₁ s
     touch_lift f' b' i d = record {
       answer = answers;
       holds = λ us f xs ys vs h.
@@ -160,14 +159,14 @@ module _ (t : Tabs) (s : Buckets) (x cap r : ℕ) (er : r ≡ owner t.buckets x)
           rises us f xs ys vs h (tabs f' t.prevs t.nexts b' t.spares) s (rw (z.0, z.1, sym g.1) (rw e at h₂));
     }
 
-    module _ (t₁ : Tabs) (o : Left) (d : LevelLeaves t s x t₁ o) where
+    module _ (t₁ : Tabs) (at₁ : ℕ) (s₁ : Buckets) (d : LevelLeaves t s x t₁ at₁ s₁) where
       -- out, and in again one level higher
-      pub touch_moves : (t' : Tabs) (s' : Buckets) → LevelEnters t₁ o.state o.at f₁.0 x t' s' → LevelTouches t s x cap t' (record { frequency = f₁; state = s' })
+      pub touch_moves : (t' : Tabs) (s' : Buckets) → LevelEnters t₁ s₁ at₁ f₁.0 x t' s' → LevelTouches t s x cap t' f₁ s'
       touch_moves t' s' en = record {
         answer = answers;
         holds = λ us f xs ys vs h.
             let e : f₁.0 ≡ f + 1 = e₁ ∙ ap (λ (k : ℕ). k + 1) (is_level us f xs ys vs h) in
-            let en' = subst (λ (k : ℕ). LevelEnters t₁ o.state o.at k x t' s') e en in
+            let en' = subst (λ (k : ℕ). LevelEnters t₁ s₁ at₁ k x t' s') e en in
             let ord = held_order t s us f (xs ++ x ∷ ys) vs h in
             let hu = all_append (λ l. l.freq < f + 1) us (keep f (xs ++ ys) []) (all_map (λ l. l.freq < f) (λ l. l.freq < f + 1) (λ l q. omega arith) us ord.0) (keep_all (λ l. l.freq < f + 1) f (xs ++ ys) (omega arith)) in
             let hv = all_map (λ l. f < l.freq) (λ l. f + 1 ≤ l.freq) (λ l q. omega arith) vs ord.3 in
@@ -187,27 +186,27 @@ bound_spots t s x b r er =
 
 -- ---- `restart`
 
-module _ (t : Tabs) (s : Buckets) (x : ℕ) (t₁ : Tabs) (o : Left) (d : LevelLeaves t s x t₁ o) where
+module _ (t : Tabs) (s : Buckets) (x : ℕ) (t₁ : Tabs) (at₁ : ℕ) (s₁ : Buckets) (d : LevelLeaves t s x t₁ at₁ s₁) where
   -- the slot that has left is marked free
-  pub restart_ready : SlotBound t s x → Binding t₁ o.state x
+  pub restart_ready : SlotBound t s x → Binding t₁ s₁ x
   restart_ready b =
-      let r = left_ready t s x t₁ o d b in
+      let r = left_ready t s x t₁ at₁ s₁ d b in
       let ls = r.us ++ r.vs in
-      let h = parted_held t₁ o.state o.at r.us r.vs r.parted in
-      record { sound = (ls, h); slot = r.slot; next_own = (free_exact t₁ o.state ls h x r.slot).1 r.away }
+      let h = parted_held t₁ s₁ at₁ r.us r.vs r.parted in
+      record { sound = (ls, h); slot = r.slot; next_own = (free_exact t₁ s₁ ls h x r.slot).1 r.away }
 
-  pub restarts : (t' : Tabs) (s' : Buckets) → LevelBinds t₁ o.state x t' s' → LevelRestarts t s x t' s'
+  pub restarts : (t' : Tabs) (s' : Buckets) → LevelBinds t₁ s₁ x t' s' → LevelRestarts t s x t' s'
   restarts t' s' en = record {
     holds = λ us f xs ys vs h.
         let lower = us ++ keep f (xs ++ ys) [] in
-        rw (keep_append us f (xs ++ ys) vs) at (en.holds (lower ++ vs) (parted_held t₁ o.state o.at lower vs (d.holds us f xs ys vs h)));
+        rw (keep_append us f (xs ++ ys) vs) at (en.holds (lower ++ vs) (parted_held t₁ s₁ at₁ lower vs (d.holds us f xs ys vs h)));
   }
 
 -- ---- `unbind`
 
-pub unbinds : (t : Tabs) (s : Buckets) (x : ℕ) (t' : Tabs) (o : Left) → LevelLeaves t s x t' o → Unbinds t s x t' o.state
-unbinds t s x t' o d = record {
-  holds = λ us f xs ys vs h. rw (keep_append us f (xs ++ ys) vs) at (parted_held t' o.state o.at (us ++ keep f (xs ++ ys) []) vs (d.holds us f xs ys vs h));
+pub unbinds : (t : Tabs) (s : Buckets) (x : ℕ) (t' : Tabs) (at₁ : ℕ) (s₁ : Buckets) → LevelLeaves t s x t' at₁ s₁ → Unbinds t s x t' s₁
+unbinds t s x t' at₁ s₁ d = record {
+  holds = λ us f xs ys vs h. rw (keep_append us f (xs ++ ys) vs) at (parted_held t' s₁ at₁ (us ++ keep f (xs ++ ys) []) vs (d.holds us f xs ys vs h));
 }
 
 -- ---- `bind`

@@ -1,45 +1,33 @@
 -- The check of all levels: the lines passed are the beginning of all lines that there may be, and at the end as many slots were met as are not
 -- marked free. Counting then says that no other slot is bound.
 use mathlib.Core.Path.{◌≡◌, refl, sym, ap, ◌∙◌, subst}
-use mathlib.Core.Bool.{Bool, true, false, not}
-use mathlib.Core.Logic.{◌≢◌, ◌↔◌, inl}
+use mathlib.Core.Bool.{true, false, not}
+use mathlib.Core.Logic.{◌≢◌}
 use mathlib.Core.List.{List, [], ◌∷◌, ◌++◌, append_assoc, append-nil, append_cancel_left}
 use Prim.Native.Nat.{ℕ, ◌+◌, ◌*◌, ◌<◌, ◌≤◌}
 use native.Mathlib.Omega.{arith}
 use lib.ListN.{length, get_or, length-append}
 use lib.Dec.{eqb}
 use borrow.Author.Tests.{eq-eqb, ne_eqb, eqb-true}
+use Rattle.std.specs.Prelude as prelude
 use Rattle.numbers.specs.Marks.{NONE}
 use Rattle.lists.specs.Lists.{All, In, times}
 use Rattle.lists.proofs.Tests.{neither, by_eq}
 use Rattle.lists.proofs.Members.{all_append, all_mid, all_of, in_without, times_in, times_without}
 use Rattle.lists.proofs.Maps.{map_cons}
-use Rattle.lists.specs.Marks.{mark, count}
-use Rattle.lists.proofs.Pigeonhole.{count_more, marked_all, marked_cover}
+use Rattle.lists.specs.Marks.{count}
+use Rattle.lists.proofs.Pigeonhole.{marked_all, marked_cover}
 use Rattle.links.proofs.Lists.{ring_one}
 use Rattle.links.specs.Linked.{linked}
 use Rattle.bucket_table.specs.declared.Buckets.{Buckets}
-use Rattle.bucket_table.specs.Records.{WORDS, row_of, up, Spot, RecordsHold, RecordsSound}
+use Rattle.bucket_table.specs.Records.{WORDS, row_of, up, RecordsHold, RecordsSound}
 use Rattle.bucket_table.proofs.Rows.{nums_distinct}
-use Rattle.bucket_table.proofs.Places.{Standing, standing_none, standing_end, standing_next, standing_more, next_in}
-use Rattle.levels.specs.declared.Walked.{Walked}
+use Rattle.bucket_table.proofs.Places.{Standing, standing_none, standing_end, standing_next, standing_more}
 use Rattle.levels.specs.Levels.{members}
 use Rattle.levels.specs.Held.{Tabs, tabs, Line, line, rows, view, Missing, LineHeld, Even, Lines, Some, LevelsSound}
-use Rattle.levels.specs.Check.{taken, CleanSlot, Clean, ListWalk, LevelsWalk, LevelsSized, ListedSo}
+use Rattle.levels.specs.Check.{taken, Clean, ListWalk, LevelsWalk, LevelsSized, ListedSo}
 use Rattle.levels.proofs.Lines.{rows_append, LineIn, lines_room, slots_distinct, slots_below, missing_members, members_missing, lines_distinct, lines_below}
 use Rattle.levels.proofs.One.{free_missing}
-
--- ---- the marks
-
-pub clean_last : (f p n : List ℕ) (k : ℕ) → get_or n k 0 ≡ k → get_or p k 0 ≡ k → (eqb (get_or f k 0) 0 ≡ true) ↔ CleanSlot f p n k
-clean_last f p n k en ep = (λ q _. record { next_own = en; prev_own = ep; freq_zero = eqb-true (get_or f k 0) 0 q }, λ h. eq-eqb (get_or f k 0) 0 (h en).freq_zero)
-
--- the count of the slots that are not marked free
-pub count_taken : (n : List ℕ) (i : ℕ) → get_or n i 0 ≢ i → count (taken n) (i + 1) ≡ count (taken n) i + 1
-count_taken n i ne = count_more (taken n) i ∙ ap (λ (t : Bool). count (taken n) i + mark (not t)) (ne_eqb (get_or n i 0) i ne)
-
-pub count_free : (n : List ℕ) (i : ℕ) → get_or n i 0 ≡ i → count (taken n) (i + 1) ≡ count (taken n) i
-count_free n i e = let c = count_more (taken n) i ∙ ap (λ (t : Bool). count (taken n) i + mark (not t)) (eq-eqb (get_or n i 0) i e) in omega arith
 
 -- ---- lines and marks
 
@@ -109,9 +97,6 @@ module _ (f p n b : List ℕ) (s : Buckets) (bound number left : ℕ) (z : Level
       let el : c.0 ≡ line (row_of b number) c.0.slots = λ i. line (c.3 i) c.0.slots in
       (c.0.slots, c.1, q.1 ∙ ap (λ (l : List Line). w.done ++ l) (c.2 ∙ ap (λ (l : Line). l ∷ c.1) el))
 
-  pub climb_spot : number ≢ NONE → (sp : List ℕ) → RecordsSound b sp s → Spot b number
-  climb_spot ne sp k = let i = next_in b s (rows w.done) w.at number w.standing ne sp k in inl (i.0, i.1)
-
   -- its slots, if no line is empty
   next_listed : number ≢ NONE → (sp : List ℕ) (ls : List Line) → Lines (tabs f p n b sp) s ls → All Some ls → (xs : List ℕ) × ListedSo f p n b number xs × (length (members (view w.done)) + length xs ≤ length (members (view ls)))
   next_listed ne sp ls h some =
@@ -126,20 +111,19 @@ module _ (f p n b : List ℕ) (s : Buckets) (bound number left : ℕ) (z : Level
         omega (arith, length-append (members (view w.done)) (members (view (l ∷ q.1))), length-append q.0 (members (view q.1))),
       )
 
-  pub levels_bad : number ≢ NONE → (o : Walked) → ListWalk f p n b number left o → o.ok ≡ false → LevelsWalk f p n b s bound false
-  levels_bad ne o lw e = record {
+  pub levels_bad : number ≢ NONE → ListWalk f p n b number left prelude.None → LevelsWalk f p n b s bound false
+  levels_bad ne none = record {
     good = λ sp _ _ _ _ q. absurd (neither false q refl);
     all = λ sp eb k.
         let h = k.1 in
         let q = next_listed ne sp h.lines h.rep h.some in
         let c = held_count (tabs f p n b sp) s h.lines h.rep in
         let m = q.2 in let a = w.spent in
-        absurd (neither o.ok (lw.all q.0 q.1 (omega arith)) e);
+        absurd (none q.0 q.1 (omega arith));
   }
 
-  pub climb_on : number ≢ NONE → (o : Walked) → ListWalk f p n b number left o → o.ok ≡ true → (m : ℕ) → m ≡ up b s number → Climb f p n b s bound m o.left
-  climb_on ne o lw e m em =
-      let g = lw.good e in
+  pub climb_on : number ≢ NONE → (rest : ℕ) → ListWalk f p n b number left (prelude.Some rest) → (m : ℕ) → m ≡ up b s number → Climb f p n b s bound m rest
+  climb_on ne rest g m em =
       let l : Line = line (row_of b number) g.0 in
       let a = w.spent in let c = g.2 in
       let d = ap length (members_append w.done (l ∷ [])) in

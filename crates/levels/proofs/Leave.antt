@@ -196,7 +196,7 @@ module _ (f p n b sp : List ℕ) (s : Buckets) (r x : ℕ) (er : r ≡ owner b x
           left_free us g e xs ys vs h b' sp se.owners k l q.1 q.0;
     }
 
-    pub leaves_some : LevelLeaves t₀ s x k₁ (record { at = r; state = s })
+    pub leaves_some : LevelLeaves t₀ s x k₁ r s
     leaves_some = record { size = fr.sizes.0; holds = parts; gone = goes }
       where
         parts : (us : List Level) (g : ℕ) (xs ys : List ℕ) (vs : List Level) → Held t₀ s (us ++ level g (xs ++ x ∷ ys) ∷ vs) → Parted k₁ s r (us ++ keep g (xs ++ ys) []) vs
@@ -229,7 +229,7 @@ module _ (f p n b sp : List ℕ) (s : Buckets) (r x : ℕ) (er : r ≡ owner b x
       free = λ k l m. left_free us g e xs ys vs h b' sp' dr.owners k l m (subst (Without k) (sym z) tt);
     }
 
-    pub leaves_none : LevelLeaves t₀ s x d₁ (record { at = at₀; state = s' })
+    pub leaves_none : LevelLeaves t₀ s x d₁ at₀ s'
     leaves_none = record { size = fr.sizes.0; holds = parts; gone = goes }
       where
         parts : (us : List Level) (g : ℕ) (xs ys : List ℕ) (vs : List Level) → Held t₀ s (us ++ level g (xs ++ x ∷ ys) ∷ vs) → Parted d₁ s' at₀ (us ++ keep g (xs ++ ys) []) vs

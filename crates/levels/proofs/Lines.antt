@@ -7,8 +7,8 @@ use Prim.Native.Nat.{ℕ, ◌<◌, ◌≤◌}
 use native.Mathlib.Omega.{arith}
 use lib.ListN.{length, get_or, length-append}
 use Rattle.numbers.specs.Marks.{NONE}
-use Rattle.lists.specs.Lists.{All, Without, Distinct}
-use Rattle.lists.proofs.Members.{all_map, all_both, all_mid, all_put, all_append, all_left, all_right, distinct_append}
+use Rattle.lists.specs.Lists.{All, Without, Distinct, final}
+use Rattle.lists.proofs.Members.{all_map, all_both, all_mid, all_put, all_append, all_left, all_right, distinct_append, final_in}
 use Rattle.lists.proofs.Maps.{images_all, all_images, length_images, map_cons, map_parts}
 use Rattle.lists.proofs.Pigeonhole.{distinct_few}
 use Rattle.links.specs.Linked.{Kept, linked}
@@ -19,6 +19,11 @@ use Rattle.bucket_table.specs.Records.{Row, row, nums, owner, InTable, Written, 
 use Rattle.bucket_table.proofs.Rows.{rows_others, row_in, row_written, nums_distinct}
 use Rattle.levels.specs.Levels.{Level, level, members, Nowhere}
 use Rattle.levels.specs.Held.{Tabs, Line, line, rows, view, Missing, LineHeld, Free, Even, Lines, Some, Held}
+
+-- the last of some slots is no mark
+pub final_slot : (n : ℕ) → n ≤ NONE → (xs : List ℕ) → All (λ i. i < n) xs → 0 < length xs → final NONE xs ≢ NONE
+final_slot n room [] a l q = omega arith
+final_slot n room (x ∷ xs) a l q = let k = final_in (λ i. i < n) x xs a.0 a.1 in omega arith
 
 -- ---- lists of lines
 

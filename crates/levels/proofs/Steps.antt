@@ -2,13 +2,12 @@
 use mathlib.Core.Path.{◌≡◌, refl, sym, ap, ◌∙◌, subst}
 use mathlib.Core.Logic.{◌≢◌}
 use mathlib.Core.List.{List, [], ◌∷◌, ◌++◌}
-use Prim.Native.Nat.{ℕ, ◌+◌, ◌<◌, ◌≤◌}
+use Prim.Native.Nat.{ℕ, ◌<◌, ◌≤◌}
 use native.Mathlib.Omega.{arith}
 use lib.ListN.{length, get_or, set, length-set}
 use lib.Seq.{get_or-set_same, get_or-set_other}
 use Rattle.numbers.specs.Frequency.{CEILING}
 use Rattle.lists.specs.Lists.{All, Without}
-use Rattle.lists.proofs.Tests.{by_eq}
 use Rattle.lists.proofs.Members.{all_map, all_both, all_mid, all_put}
 use Rattle.links.specs.Ring.{upd}
 use Rattle.links.specs.Linked.{Fits, Pushed, Moved, linked}
@@ -16,10 +15,10 @@ use Rattle.links.specs.declared.Ends.{Ends}
 use Rattle.links.proofs.Functions.{upd_same, upd_other, cells_upd}
 use Rattle.bucket_table.specs.declared.Buckets.{Buckets}
 use Rattle.bucket_table.specs.Records.{Row, row, owner, EndsAt, Written}
-use Rattle.bucket_table.specs.Calls.{SetEnds, SetOwner, Raises, RecordsReset}
+use Rattle.bucket_table.specs.Calls.{SetEnds, SetOwner, Raises}
 use Rattle.levels.specs.Levels.{level}
-use Rattle.levels.specs.Held.{Tabs, tabs, Line, line, rows, Missing, Free, Even, Lines, Some}
-use Rattle.levels.specs.Calls.{Frees, Attaching, Attaches, Fronts, Lifts, LevelsReset}
+use Rattle.levels.specs.Held.{Tabs, tabs, Line, line, rows, Missing, Lines, Some}
+use Rattle.levels.specs.Calls.{Frees, Attaching, Attaches, Fronts, Lifts}
 use Rattle.levels.proofs.Lines.{rows_append, view_append, view_all, rows_all, LineIn, records_mid, line_in, written, only_here, split_at, Alike, Resized, even_still, others_still, free_still}
 
 -- a function at one place, by an equation of functions
@@ -220,42 +219,3 @@ module _ (f b : List ℕ) (r h x : ℕ) (lx : x < length f) (b' : List ℕ) (ra 
           seen = view_append k.lower (line (row r h k.ends) (x ∷ []) ∷ k.upper) ∙ (λ i. k.seen_lower i ++ level h (x ∷ []) ∷ k.seen_upper i);
         };
   }
-
--- ---- `reset`
-
--- one more slot is marked free
-pub freed_more : (f p n : List ℕ) (i : ℕ) → i < length f → length p ≡ length f → length n ≡ length f → ((k : ℕ) → k < i → Free f p n k)
-    → (k : ℕ) → k < i + 1 → Free (set f i 0) (set p i i) (set n i i) k
-freed_more f p n i l ep en h k lk =
-    by_eq k i
-    (λ e. subst (Free (set f i 0) (set p i i) (set n i i)) (sym e) (record {
-      next_own = get_or-set_same n i i 0 (omega arith);
-      prev_own = get_or-set_same p i i 0 (omega arith);
-      freq_zero = get_or-set_same f i 0 0 l;
-    }))
-    (λ d.
-    let g = h k (omega arith) in
-    record {
-      next_own = get_or-set_other n i k i 0 d ∙ g.next_own;
-      prev_own = get_or-set_other p i k i 0 d ∙ g.prev_own;
-      freq_zero = get_or-set_other f i k 0 0 d ∙ g.freq_zero;
-    })
-
-pub all_free : (f p n f' p' n' sp sp' : List ℕ) (s : Buckets) → Even f p n → length sp ≡ length f → length f' ≡ length f → length p' ≡ length p → length n' ≡ length n
-    → ((k : ℕ) → k < length f' → Free f' p' n' k) → RecordsReset sp sp' s → LevelsReset f f' p' n' sp' s
-all_free f p n f' p' n' sp sp' s e es lf lp ln h r = record {
-  holds = λ b z. record {
-    lines = [];
-    rep =
-        let a = e.limit in let c = e.prevs_size in let d = e.nexts_size in let g = r.size in
-        record {
-          even = record { limit = omega arith; prevs_size = omega arith; nexts_size = omega arith };
-          spares_size = omega arith;
-          records = r.rows b (omega arith);
-          each = tt;
-          free = λ k l _. h k l;
-        };
-    some = tt;
-    seen = refl;
-  };
-}

@@ -1,35 +1,22 @@
 -- The walk of one list. The slots passed are the beginning of every list that the record may have, and each of them was tested; `left` says
 -- how many may still come.
-use mathlib.Core.Path.{◌≡◌, refl, sym, ap, ◌∙◌, subst}
-use mathlib.Core.Bool.{true, false}
-use mathlib.Core.Logic.{◌≢◌, ◌↔◌}
+use mathlib.Core.Path.{◌≡◌, sym, ap, ◌∙◌, subst}
+use mathlib.Core.Logic.{◌≢◌}
 use mathlib.Core.List.{List, [], ◌∷◌, ◌++◌}
 use Prim.Native.Nat.{ℕ, ◌+◌, ◌<◌, ◌≤◌, ◌-◌}
 use native.Mathlib.Omega.{arith}
 use lib.ListN.{length, get_or, length-append}
-use lib.Dec.{eqb}
-use borrow.Author.Tests.{eq-eqb, eqb-true}
+use Rattle.std.specs.Prelude.{Some, None}
 use Rattle.numbers.specs.Marks.{NONE}
 use Rattle.lists.specs.Lists.{All, final}
-use Rattle.lists.proofs.Tests.{neither}
-use Rattle.lists.proofs.Members.{all_map, all_both, all_mid, all_append, final_in}
+use Rattle.lists.proofs.Members.{all_map, all_both, all_mid, all_append}
 use Rattle.links.specs.Linked.{next, prev, Linked, linked}
 use Rattle.links.proofs.Functions.{look_end, look_at}
 use Rattle.links.proofs.Lists.{ring_clear}
 use Rattle.links.proofs.Walks.{Walk, walk_start, walk_on, walk_next, walk_end, walk_whole}
-use Rattle.bucket_table.specs.Records.{frequency, head, tail, count, owner, row_of, InTable}
+use Rattle.bucket_table.specs.Records.{frequency, head, tail, count, owner, row_of}
 use Rattle.levels.specs.Check.{SlotOk, ListWalk, LevelsSized, ListedSo}
-
--- ---- one slot
-
-pub slot_fits : (f p n b : List ℕ) (x : ℕ) → LevelsSized f p n b → x < length f → InTable b x
-slot_fits f p n b x z l = let e = z.size in omega arith
-
-pub slot_last : (f p b : List ℕ) (r g at x v : ℕ) → x < length f → get_or p x 0 ≡ at → get_or f x 0 ≡ g → v ≡ owner b x → (eqb v r ≡ true) ↔ SlotOk f p b r g at x
-slot_last f p b r g at x v l e₁ e₂ ev = (
-  λ q. record { slot = l; back = e₁; freq_is = e₂; own_is = sym ev ∙ eqb-true v r q },
-  λ k. eq-eqb v r (ev ∙ k.own_is),
-)
+use Rattle.levels.proofs.Lines.{final_slot}
 
 -- ---- the walk
 
@@ -74,14 +61,11 @@ module _ (f p n b : List ℕ) (r : ℕ) where
           omega (arith, length-append w.passed (x ∷ q.0)),
         )
 
-    refuse : ((xs : List ℕ) → ListedSo f p n b r xs → length xs ≤ left → ⊥) → ListWalk f p n b r left (record { ok = false; left = 0 })
-    refuse g = record { good = λ q. absurd (neither false q refl); all = λ xs h l. absurd (g xs h l) }
+    pub list_short : m ≡ 0 → x ≢ NONE → ListWalk f p n b r left None
+    list_short e ne = λ xs h l. let a = (next_ok ne xs h).1 in let c = w.spent in omega arith
 
-    pub list_short : m ≡ 0 → x ≢ NONE → ListWalk f p n b r left (record { ok = false; left = 0 })
-    list_short e ne = refuse (λ xs h l. let a = (next_ok ne xs h).1 in let c = w.spent in omega arith)
-
-    pub list_bad : x ≢ NONE → (g : ℕ) → g ≡ frequency b r → (SlotOk f p b r g at x → ⊥) → ListWalk f p n b r left (record { ok = false; left = 0 })
-    list_bad ne g eg bad = refuse (λ xs h l. bad (rw eg (next_ok ne xs h).0))
+    pub list_bad : x ≢ NONE → (g : ℕ) → g ≡ frequency b r → (SlotOk f p b r g at x → ⊥) → ListWalk f p n b r left None
+    list_bad ne g eg bad = λ xs h l. bad (rw eg (next_ok ne xs h).0)
 
     pub along_on : (g : ℕ) → g ≡ frequency b r → SlotOk f p b r g at x → m ≢ 0 → Along left x (get_or n x 0) (m - 1)
     along_on g eg k nz =
@@ -97,39 +81,38 @@ module _ (f p n b : List ℕ) (r : ℕ) where
     whole : x ≡ NONE → (xs : List ℕ) → ListedSo f p n b r xs → (xs ≡ w.passed) × (prev Here NONE ≡ at)
     whole e xs h = walk_whole (next Here) (prev Here) w.passed at x w.walk e xs (ring_clear Here room xs h.held.ring) h.held.ring.links
 
-    pub list_none : x ≡ NONE → at ≡ NONE → ListWalk f p n b r left (record { ok = false; left = 0 })
-    list_none e ea = refuse (λ xs h l. go w.passed w.fine (sym ea ∙ w.walk.last) (subst (λ (ys : List ℕ). 0 < length ys) (whole e xs h).0 h.some))
-      where
-        go : (ys : List ℕ) → All Fine ys → NONE ≡ final NONE ys → 0 < length ys → ⊥
-        go [] a q l = omega arith
-        go (y ∷ ys) a q l = let k = final_in (λ i. i < length p) y ys a.0.0 (all_map Fine (λ i. i < length p) (λ i o. o.0) ys a.1) in let c = room in omega arith
+    pub list_none : x ≡ NONE → at ≡ NONE → ListWalk f p n b r left None
+    list_none e ea = λ xs h l.
+        final_slot (length p) room w.passed (all_map Fine (λ i. i < length p) (λ i o. o.0) w.passed w.fine)
+        (subst (λ (ys : List ℕ). 0 < length ys) (whole e xs h).0 h.some) (sym w.walk.last ∙ ea)
 
     -- a list that there may be was passed whole, and has as many slots as were taken from `left`
-    pub list_miscounted : x ≡ NONE → (ct : ℕ) → ct ≡ count b r → ct ≢ left - m → ListWalk f p n b r left (record { ok = false; left = 0 })
-    list_miscounted e ct ec ne =
-        refuse (λ xs h l. let c = w.spent in let k = ap length (whole e xs h).0 in let q = h.held.ring.many in ne (ec ∙ q ∙ omega arith))
+    pub list_miscounted : x ≡ NONE → (ct : ℕ) → ct ≡ count b r → ct ≢ left - m → ListWalk f p n b r left None
+    list_miscounted e ct ec ne = λ xs h l.
+        let c = w.spent in let k = ap length (whole e xs h).0 in let q = h.held.ring.many in ne (ec ∙ q ∙ omega arith)
 
-    pub list_done : x ≡ NONE → at ≢ NONE → (ct : ℕ) → ct ≡ count b r → ct ≡ left - m → (tl : ℕ) → tl ≡ tail b r
-        → ListWalk f p n b r left (record { ok = eqb tl at; left = m })
-    list_done e na ct ec em tl et = record {
-      good = λ q.
-          let c = w.spent in (
-            w.passed,
-            record {
-              held = record {
-                ring = record {
-                  slots = all_map Fine (λ i. i < length p) (λ i o. o.0) w.passed w.fine;
-                  links = walk_end (next Here) (prev Here) w.passed at x w.walk e (look_end (λ k. get_or p k 0) (tail b r) ∙ sym et ∙ eqb-true tl at q);
-                  many = sym ec ∙ em ∙ omega arith;
-                };
-                own = all_map Fine (λ y. (get_or f y 0 ≡ frequency b r) × (owner b y ≡ r)) (λ y o. (o.1, o.2)) w.passed w.fine;
+    -- and the last of them is its tail
+    pub list_other_tail : x ≡ NONE → (tl : ℕ) → tl ≡ tail b r → tl ≢ at → ListWalk f p n b r left None
+    list_other_tail e tl et ne = λ xs h l. ne (et ∙ sym (look_end (λ k. get_or p k 0) (tail b r)) ∙ (whole e xs h).1)
+
+    pub list_done : x ≡ NONE → at ≢ NONE → (ct : ℕ) → ct ≡ count b r → ct ≡ left - m → (tl : ℕ) → tl ≡ tail b r → tl ≡ at
+        → ListWalk f p n b r left (Some m)
+    list_done e na ct ec em tl et q =
+        let c = w.spent in (
+          w.passed,
+          record {
+            held = record {
+              ring = record {
+                slots = all_map Fine (λ i. i < length p) (λ i o. o.0) w.passed w.fine;
+                links = walk_end (next Here) (prev Here) w.passed at x w.walk e (look_end (λ k. get_or p k 0) (tail b r) ∙ sym et ∙ q);
+                many = sym ec ∙ em ∙ omega arith;
               };
-              some = go w.passed w.walk.last;
-            },
-            omega arith,
-          );
-      all = λ xs h l. eq-eqb tl at (et ∙ sym (look_end (λ k. get_or p k 0) (tail b r)) ∙ (whole e xs h).1);
-    }
+              own = all_map Fine (λ y. (get_or f y 0 ≡ frequency b r) × (owner b y ≡ r)) (λ y o. (o.1, o.2)) w.passed w.fine;
+            };
+            some = go w.passed w.walk.last;
+          },
+          omega arith,
+        )
       where
         go : (ys : List ℕ) → at ≡ final NONE ys → 0 < length ys
         go [] q = absurd (na q)

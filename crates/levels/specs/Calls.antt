@@ -1,5 +1,8 @@
 -- What each call asks and does. A call that is not lent some table says it for every such table that fits.
-use Rattle.std.specs.Prelude.{◌≡◌, List, [], ◌∷◌, ◌++◌, ℕ, ◌*◌, ◌<◌, ◌≤◌, length, get_or}
+use Rattle.std.specs.Prelude.{◌≡◌, ◌≢◌, List, [], ◌∷◌, ◌++◌, ℕ, ◌*◌, ◌<◌, ◌≤◌, length, get_or, Option, Some, None}
+use Rattle.numbers.specs.declared.Slot.{Slot}
+use Rattle.numbers.specs.declared.Frequency.{Frequency}
+use Rattle.numbers.specs.Marks.{NONE}
 use Rattle.numbers.specs.Frequency.{FIRST, CEILING, raised}
 use Rattle.lists.specs.Lists.{All}
 use Rattle.links.specs.Ring.{upd}
@@ -9,8 +12,6 @@ use Rattle.links.specs.declared.Ends.{Ends}
 use Rattle.bucket_table.specs.declared.Buckets.{Buckets}
 use Rattle.bucket_table.specs.Records.{WORDS, head, tail, owner, up, InTable, row}
 use Rattle.bucket_table.specs.Calls.{HasLevel}
-use Rattle.levels.specs.declared.Touched.{Touched}
-use Rattle.levels.specs.declared.Left.{Left}
 use Rattle.levels.specs.Levels.{Level, level, Nowhere, keep, join, touched, first, lowest, lowest_frequency, head_of, slot_list, count_of, count_up_to}
 use Rattle.levels.specs.Held.{Tabs, tabs, Line, line, Missing, Lines, Held, Parted, LevelsSound}
 
@@ -67,10 +68,10 @@ pub record Leaving (t : Tabs) (s : Buckets) (r x : ℕ) : Type 0 where
   pub bound : SlotBound t s x
   pub number : r ≡ owner t.buckets x
 
-pub record LevelLeaves (t : Tabs) (s : Buckets) (x : ℕ) (t' : Tabs) (o : Left) : Type 0 where
+pub record LevelLeaves (t : Tabs) (s : Buckets) (x : ℕ) (t' : Tabs) (at : ℕ) (s' : Buckets) : Type 0 where
   pub size : length t'.freqs ≡ length t.freqs
   pub holds : (us : List Level) (f : ℕ) (xs ys : List ℕ) (vs : List Level)
-      → Held t s (us ++ level f (xs ++ x ∷ ys) ∷ vs) → Parted t' o.state o.at (us ++ keep f (xs ++ ys) []) vs
+      → Held t s (us ++ level f (xs ++ x ∷ ys) ∷ vs) → Parted t' s' at (us ++ keep f (xs ++ ys) []) vs
   pub gone : (us : List Level) (f : ℕ) (xs ys : List ℕ) (vs : List Level)
       → Held t s (us ++ level f (xs ++ x ∷ ys) ∷ vs) → Nowhere x ((us ++ keep f (xs ++ ys) []) ++ vs)
 
@@ -88,10 +89,10 @@ pub record LevelEnters (t : Tabs) (s : Buckets) (at f x : ℕ) (t' : Tabs) (s' :
 
 -- ---- the calls
 
-pub record LevelTouches (t : Tabs) (s : Buckets) (x cap : ℕ) (t' : Tabs) (r : Touched) : Type 0 where
-  pub answer : (us : List Level) (f : ℕ) (xs ys : List ℕ) (vs : List Level) → Held t s (us ++ level f (xs ++ x ∷ ys) ∷ vs) → r.frequency.0 ≡ raised cap f
+pub record LevelTouches (t : Tabs) (s : Buckets) (x cap : ℕ) (t' : Tabs) (g : Frequency) (s' : Buckets) : Type 0 where
+  pub answer : (us : List Level) (f : ℕ) (xs ys : List ℕ) (vs : List Level) → Held t s (us ++ level f (xs ++ x ∷ ys) ∷ vs) → g.0 ≡ raised cap f
   pub holds : (us : List Level) (f : ℕ) (xs ys : List ℕ) (vs : List Level)
-      → Held t s (us ++ level f (xs ++ x ∷ ys) ∷ vs) → Held t' r.state (us ++ touched cap x f (xs ++ ys) vs)
+      → Held t s (us ++ level f (xs ++ x ∷ ys) ∷ vs) → Held t' s' (us ++ touched cap x f (xs ++ ys) vs)
 
 -- x is at the head of the first level, which is the lowest there can be, and the others are as they were
 pub record LevelRestarts (t : Tabs) (s : Buckets) (x : ℕ) (t' : Tabs) (s' : Buckets) : Type 0 where
@@ -115,15 +116,20 @@ pub record Unbinds (t : Tabs) (s : Buckets) (x : ℕ) (t' : Tabs) (s' : Buckets)
 abbrev pub SoundWith : List ℕ → Buckets → Type 0
 SoundWith b s = (f : List ℕ) × (p : List ℕ) × (n : List ℕ) × (sp : List ℕ) × LevelsSound (tabs f p n b sp) s
 
+-- the answer is the slot x, and none where x is the mark of none
+abbrev pub Names : Option Slot → ℕ → Type 0
+Names (Some s) x = (s.0 ≡ x) × (x ≢ NONE)
+Names None x = x ≡ NONE
+
 -- the answers are those of the levels that are held
-pub record Lowest (b : List ℕ) (s : Buckets) (r : ℕ) : Type 0 where
-  pub answer : (f p n sp : List ℕ) (ls : List Level) → Held (tabs f p n b sp) s ls → r ≡ lowest ls
+pub record Lowest (b : List ℕ) (s : Buckets) (r : Option Slot) : Type 0 where
+  pub answer : (f p n sp : List ℕ) (ls : List Level) → Held (tabs f p n b sp) s ls → Names r (lowest ls)
 
 pub record LowestFrequency (b : List ℕ) (s : Buckets) (r : ℕ) : Type 0 where
   pub answer : (f p n sp : List ℕ) (ls : List Level) → Held (tabs f p n b sp) s ls → r ≡ lowest_frequency ls
 
-pub record Heads (b : List ℕ) (s : Buckets) (g r : ℕ) : Type 0 where
-  pub answer : (f p n sp : List ℕ) (ls : List Level) → Held (tabs f p n b sp) s ls → r ≡ head_of g ls
+pub record Heads (b : List ℕ) (s : Buckets) (g : ℕ) (r : Option Slot) : Type 0 where
+  pub answer : (f p n sp : List ℕ) (ls : List Level) → Held (tabs f p n b sp) s ls → Names r (head_of g ls)
 
 -- the ends of the list of frequency g, those of an empty one where the level is not in use
 pub record LevelEnds (b : List ℕ) (s : Buckets) (g : ℕ) (e : Ends) : Type 0 where

@@ -1,9 +1,8 @@
 -- What the loops of the check find.
-use Rattle.std.specs.Prelude.{◌≡◌, Bool, true, not, List, ℕ, ◌+◌, ◌*◌, ◌<◌, ◌≤◌, length, get_or, eqb}
+use Rattle.std.specs.Prelude.{◌≡◌, Bool, true, not, List, ℕ, ◌+◌, ◌*◌, ◌<◌, ◌≤◌, length, get_or, eqb, Option, Some, None}
 use Rattle.lists.specs.Marks.{count}
 use Rattle.bucket_table.specs.Records.{WORDS, owner, row_of, RecordsSound}
 use Rattle.bucket_table.specs.declared.Buckets.{Buckets}
-use Rattle.levels.specs.declared.Walked.{Walked}
 use Rattle.levels.specs.Held.{tabs, line, LineHeld, Free, Even, LevelsSound}
 
 -- slot k is not marked free
@@ -39,10 +38,10 @@ pub record ListedSo (f p n b : List ℕ) (r : ℕ) (xs : List ℕ) : Type 0 wher
   pub held : LineHeld f p n b (line (row_of b r) xs)
   pub some : 0 < length xs
 
--- the walk says yes exactly where record r has slots, at most `left` of them, and takes them from `left`
-pub record ListWalk (f p n b : List ℕ) (r left : ℕ) (o : Walked) : Type 0 where
-  pub good : o.ok ≡ true → (xs : List ℕ) × ListedSo f p n b r xs × (left ≡ o.left + length xs)
-  pub all : (xs : List ℕ) → ListedSo f p n b r xs → length xs ≤ left → o.ok ≡ true
+-- record r has slots, and the walk takes them from `left`; or it has none, or more than `left`
+abbrev pub ListWalk : (f p n b : List ℕ) → (r left : ℕ) → Option ℕ → Type 0
+ListWalk f p n b r left (Some rest) = (xs : List ℕ) × ListedSo f p n b r xs × (left ≡ rest + length xs)
+ListWalk f p n b r left None = (xs : List ℕ) → ListedSo f p n b r xs → length xs ≤ left → ⊥
 
 -- the walk says yes exactly where there are levels with as many slots as are not marked free
 pub record LevelsWalk (f p n b : List ℕ) (s : Buckets) (bound : ℕ) (ok : Bool) : Type 0 where

@@ -6,8 +6,8 @@
 ghost use Rattle.std.specs.Prelude.{◌≡◌, true, ◌↔◌, ◌<◌, length, get_or};
 ghost use Rattle.lists.specs.Marks.{count};
 ghost use Rattle.bucket_table.specs.Records.{InTable};
-ghost use Rattle.levels.specs.Held.{Even, LevelsSound};
-ghost use Rattle.levels.specs.Slices.{lent};
+ghost use Rattle.levels.specs.Held.{Tabs, Even, LevelsSound};
+ghost use Rattle.levels.specs.Slices.{lent, shown};
 ghost use Rattle.levels.specs.Check.{taken, CleanSlot, Clean, SomeRecords, SlotOk, ListWalk, LevelsWalk, LevelsSized};
 
 use bucket_table::Buckets;
@@ -15,25 +15,53 @@ use numbers::{Frequency, LIMIT, NONE, Slot};
 
 pub mod sound;
 
-// What a touch answers: the slot's new frequency, and the state.
-#[derive(Clone, Copy)]
-pub struct Touched {
-    pub frequency: Frequency,
-    pub state: Buckets,
+// The five tables of the levels, lent for writing or for reading: each slot's frequency and its neighbours, the bucket records, and which of
+// these are spare.
+#[derive(Drop)]
+pub struct Levels<T> {
+    pub freqs: T,
+    pub prevs: T,
+    pub nexts: T,
+    pub buckets: T,
+    pub spares: T,
 }
 
-// The record below the place that a slot has left, and the state without the slot.
-#[derive(Clone, Copy)]
-pub struct Left {
-    pub at: u64,
-    pub state: Buckets,
+// Tables of levels that can be read, however they are lent.
+pub trait LevelTables {
+    // What they have.
+    ghost lists: { Self → Tabs };
+
+    // The same tables for reading.
+    fn shown(&self) -> Levels<&[u64]>
+        ensures { shown result ≡ lists self.now };
 }
 
-// Whether a list was found, and how many slots are left to find.
-#[derive(Clone, Copy)]
-struct Walked {
-    ok: bool,
-    left: u64,
+impl LevelTables for Levels<&mut [u64]> {
+    ghost lists = { lent };
+
+    fn shown(&self) -> Levels<&[u64]> {
+        Levels {
+            freqs: &self.freqs[..],
+            prevs: &self.prevs[..],
+            nexts: &self.nexts[..],
+            buckets: &self.buckets[..],
+            spares: &self.spares[..],
+        }
+    }
+}
+
+impl LevelTables for Levels<&[u64]> {
+    ghost lists = { shown };
+
+    fn shown(&self) -> Levels<&[u64]> {
+        Levels {
+            freqs: self.freqs,
+            prevs: self.prevs,
+            nexts: self.nexts,
+            buckets: self.buckets,
+            spares: self.spares,
+        }
+    }
 }
 
 // Whether a slot is one of the table and is marked free.
@@ -41,10 +69,7 @@ pub fn is_free(nexts: &[u64], slot: Slot) -> bool
     ensures { (result ≡ true) ↔ ((slot.0 < length nexts.now) × (get_or nexts.now slot.0 0 ≡ slot.0)) }
 {
     let s = slot.0 as usize;
-    if s < nexts.len() {
-        return nexts[s] == slot.0;
-    }
-    false
+    s < nexts.len() && nexts[s] == slot.0
 }
 
 // Whether a slot that is marked free has nothing else in its cells.
@@ -52,13 +77,7 @@ fn slot_clean(freqs: &[u64], prevs: &[u64], nexts: &[u64], slot: usize) -> bool
     requires { Even freqs.now prevs.now nexts.now × (slot < length freqs.now) }
     ensures { (result ≡ true) ↔ CleanSlot freqs.now prevs.now nexts.now slot }
 {
-    if nexts[slot] != slot as u64 {
-        return true;
-    }
-    if prevs[slot] != slot as u64 {
-        return false;
-    }
-    freqs[slot] == 0
+    nexts[slot] != slot as u64 || (prevs[slot] == slot as u64 && freqs[slot] == 0)
 }
 
 // Whether all slots that are marked free have nothing else in their cells.
@@ -66,14 +85,7 @@ fn is_clean(freqs: &[u64], prevs: &[u64], nexts: &[u64]) -> bool
     requires { Even freqs.now prevs.now nexts.now }
     ensures { (result ≡ true) ↔ Clean freqs.now prevs.now nexts.now (length freqs.now) }
 {
-    let mut s: usize = 0;
-    while s < freqs.len() {
-        if !slot_clean(freqs, prevs, nexts, s) {
-            return false;
-        }
-        s += 1;
-    }
-    true
+    (0..freqs.len()).all(|s| slot_clean(freqs, prevs, nexts, s))
 }
 
 // How many slots are not marked free.
@@ -81,12 +93,10 @@ fn count_bound(nexts: &[u64]) -> u64
     ensures { result ≡ count (taken nexts.now) (length nexts.now) }
 {
     let mut bound: u64 = 0;
-    let mut s: usize = 0;
-    while s < nexts.len() {
-        if nexts[s] != s as u64 {
+    for (s, next) in nexts.iter().enumerate() {
+        if *next != s as u64 {
             bound += 1;
         }
-        s += 1;
     }
     bound
 }
@@ -105,19 +115,13 @@ fn slot_ok(
     requires { LevelsSized freqs.now prevs.now nexts.now buckets.now }
     ensures { (result ≡ true) ↔ SlotOk freqs.now prevs.now buckets.now number frequency.0 at slot }
 {
-    if slot >= freqs.len() as u64 {
-        return false;
-    }
-    if prevs[slot as usize] != at {
-        return false;
-    }
-    if freqs[slot as usize] != frequency.0 {
-        return false;
-    }
-    bucket_table::sound::owner(buckets, Slot(slot)) == number
+    slot < freqs.len() as u64
+        && prevs[slot as usize] == at
+        && freqs[slot as usize] == frequency.0
+        && bucket_table::sound::owner(buckets, Slot(slot)) == number
 }
 
-// Walks the list of a record, of at most `left` slots, which is to have as many as the record says.
+// Walks the list of a record, of at most `left` slots, which is to have as many as the record says: how many are left then, None where it is wrong.
 fn walk_list(
     freqs: &[u64],
     prevs: &[u64],
@@ -125,7 +129,7 @@ fn walk_list(
     buckets: &[u64],
     number: u64,
     left: u64,
-) -> Walked
+) -> Option<u64>
     requires { LevelsSized freqs.now prevs.now nexts.now buckets.now × InTable buckets.now number }
     ensures { ListWalk freqs.now prevs.now nexts.now buckets.now number left result }
 {
@@ -134,28 +138,20 @@ fn walk_list(
     let mut at = NONE;
     let mut slot = ends.head;
     let mut n = left;
+    // A `while`, since it follows links: no range and no iterator has the places.
     while slot != NONE {
-        if n == 0 {
-            return Walked { ok: false, left: 0 };
-        }
-        if !slot_ok(freqs, prevs, nexts, buckets, number, frequency, at, slot) {
-            return Walked { ok: false, left: 0 };
+        if n == 0 || !slot_ok(freqs, prevs, nexts, buckets, number, frequency, at, slot) {
+            return None;
         }
         at = slot;
         slot = nexts[slot as usize];
         n -= 1;
     }
-    if at == NONE {
-        return Walked { ok: false, left: 0 };
-    }
     let found = left - n;
-    if ends.count != found {
-        return Walked { ok: false, left: 0 };
+    if at == NONE || ends.count != found || ends.tail != at {
+        return None;
     }
-    Walked {
-        ok: ends.tail == at,
-        left: n,
-    }
+    Some(n)
 }
 
 // Walks the lists of all records, which are to have as many slots as are not marked free.
@@ -172,47 +168,38 @@ fn walk_levels(
 {
     let mut number = state.bottom;
     let mut left = bound;
+    // A `while`, since it follows links: no range and no iterator has the places.
     while number != NONE {
-        let w = walk_list(freqs, prevs, nexts, buckets, number, left);
-        if !w.ok {
+        let Some(rest) = walk_list(freqs, prevs, nexts, buckets, number, left) else {
             return false;
-        }
-        left = w.left;
+        };
+        left = rest;
         number = bucket_table::sound::above(buckets, state, number);
     }
     left == 0
 }
 
 // Whether the tables hold levels. Linear in the tables' length, and they may hold any numbers.
-pub fn is_sound(
-    freqs: &[u64],
-    prevs: &[u64],
-    nexts: &[u64],
-    buckets: &[u64],
-    spares: &[u64],
-    state: Buckets,
-) -> bool
-    ensures { (result ≡ true) ↔ LevelsSound (lent freqs.now prevs.now nexts.now buckets.now spares.now) state }
+pub fn is_sound(levels: &Levels<&[u64]>, state: Buckets) -> bool
+    ensures { (result ≡ true) ↔ LevelsSound (shown levels.now) state }
 {
+    let Levels {
+        freqs,
+        prevs,
+        nexts,
+        buckets,
+        spares,
+    } = *levels;
     let capacity = freqs.len();
-    if capacity as u64 > LIMIT {
+    if capacity as u64 > LIMIT
+        || prevs.len() != capacity
+        || nexts.len() != capacity
+        || spares.len() != capacity
+    {
         return false;
     }
-    if prevs.len() != capacity {
+    if !bucket_table::is_sound(buckets, spares, state) || !is_clean(freqs, prevs, nexts) {
         return false;
     }
-    if nexts.len() != capacity {
-        return false;
-    }
-    if spares.len() != capacity {
-        return false;
-    }
-    if !bucket_table::is_sound(buckets, spares, state) {
-        return false;
-    }
-    if !is_clean(freqs, prevs, nexts) {
-        return false;
-    }
-    let bound = count_bound(nexts);
-    walk_levels(freqs, prevs, nexts, buckets, state, bound)
+    walk_levels(freqs, prevs, nexts, buckets, state, count_bound(nexts))
 }

@@ -4,227 +4,114 @@
 
 ghost use Rattle.ledger.specs.History as ledger;
 ghost use Rattle.promise.specs.Promise.{Makes};
-ghost use Rattle.answers.specs.Replies.{level_reply, insertion_reply, value_reply, least_used_reply};
-ghost use Rattle.cache_tables.specs.Slices.{lent};
+ghost use Rattle.levels.specs.Slices.{SameLevels};
+ghost use Rattle.buckets_tables.specs.Slices.{Same};
+ghost use Rattle.answers.specs.Replies.{insertion_reply, least_used_reply, level_reply, number_reply};
+ghost use Rattle.cache_tables.specs.Slices.{counted, lent};
 ghost use Rattle.cache_tables.specs.Lent.{cache};
 
-use answers::{Evicted, Inserted, Insertion, LeastUsed, Level, Leveled, Value, Valued};
-use buckets_tables::State;
-use numbers::Key;
+use answers::Insertion;
+use buckets_tables::{Guests, State};
+use cache_calls::sound;
+use cache_check::check;
+use levels::Levels;
+use numbers::{Frequency, Key, Refusal};
 
-// Binds an absent key with its value; where no slot is free the key at the tail of the lowest list goes first, and is told. A bound
-// key's value is replaced, and the old one told.
+// Binds an absent key with its value; where no slot is free the key at the tail of the lowest list goes first, and is told. A bound key's
+// value is replaced, and the old one told.
 pub fn insert(
-    keys: &mut [u64],
-    freqs: &mut [u64],
+    guests: &mut Guests<&mut [u64]>,
     epochs: &mut [u64],
-    prevs: &mut [u64],
-    nexts: &mut [u64],
-    arena: &mut [u64],
-    index: &mut [u64],
-    buckets: &mut [u64],
-    spares: &mut [u64],
+    levels: &mut Levels<&mut [u64]>,
     values: &mut [u64],
-    state: State,
+    state: &mut State,
     key: Key,
     value: u64,
-) -> Inserted
-    ensures { Makes cache (ledger.Insert key.0 value)
-        (lent keys.old freqs.old epochs.old prevs.old nexts.old arena.old index.old buckets.old spares.old values.old) state (insertion_reply result.answer)
-        (lent keys.new freqs.new epochs.new prevs.new nexts.new arena.new index.new buckets.new spares.new values.new) result.state }
+) -> Result<Insertion, Refusal>
+    ensures same { Same guests.old guests.new levels.old levels.new }
+    ensures does { Makes cache (ledger.Insert key.0 value)
+        (lent guests.old epochs.old levels.old values.old) state.old (insertion_reply result)
+        (lent guests.new epochs.new levels.new values.new) state.new }
 {
-    let why = cache_check::refusal(
-        &keys[..],
-        &freqs[..],
-        &epochs[..],
-        &prevs[..],
-        &nexts[..],
-        &arena[..],
-        &index[..],
-        &buckets[..],
-        &spares[..],
-        &values[..],
-        state,
-    );
-    if why.is_done() {
-        return cache_inserts::sound::insert(
-            keys, freqs, epochs, prevs, nexts, arena, index, buckets, spares, values, state, key,
-            value,
-        );
-    }
-    Inserted {
-        answer: Insertion::Refused(why),
-        state: state,
-    }
+    check(guests, &epochs[..], levels, &values[..], *state)?;
+    cache_inserts::sound::insert(guests, epochs, levels, values, state, key, value)
 }
 
 // Hits a bound key, and answers its value.
 pub fn get(
-    keys: &[u64],
-    freqs: &mut [u64],
+    guests: &Guests<&[u64]>,
     epochs: &mut [u64],
-    prevs: &mut [u64],
-    nexts: &mut [u64],
-    arena: &[u64],
-    index: &[u64],
-    buckets: &mut [u64],
-    spares: &mut [u64],
+    levels: &mut Levels<&mut [u64]>,
     values: &[u64],
-    state: State,
+    state: &mut State,
     key: Key,
-) -> Valued
-    ensures { Makes cache (ledger.Get key.0)
-        (lent keys.now freqs.old epochs.old prevs.old nexts.old arena.now index.now buckets.old spares.old values.now) state (value_reply result.answer)
-        (lent keys.now freqs.new epochs.new prevs.new nexts.new arena.now index.now buckets.new spares.new values.now) result.state }
+) -> Result<u64, Refusal>
+    ensures same { SameLevels levels.old levels.new }
+    ensures does { Makes cache (ledger.Get key.0)
+        (counted guests.now epochs.old levels.old values.now) state.old (number_reply result)
+        (counted guests.now epochs.new levels.new values.now) state.new }
 {
-    let why = cache_check::refusal(
-        keys,
-        &freqs[..],
-        &epochs[..],
-        &prevs[..],
-        &nexts[..],
-        arena,
-        index,
-        &buckets[..],
-        &spares[..],
+    check(guests, &epochs[..], levels, values, *state)?;
+    sound::get(
+        guests.keys,
+        guests.index,
+        epochs,
+        levels,
         values,
         state,
-    );
-    if why.is_done() {
-        return cache_calls::sound::get(
-            keys, freqs, epochs, prevs, nexts, index, buckets, spares, values, state, key,
-        );
-    }
-    Valued {
-        answer: Value::Refused(why),
-        state: state,
-    }
+        key,
+    )
 }
 
 // Lets go a bound key; the answer is its value.
 pub fn remove(
-    keys: &mut [u64],
-    freqs: &mut [u64],
+    guests: &mut Guests<&mut [u64]>,
     epochs: &mut [u64],
-    prevs: &mut [u64],
-    nexts: &mut [u64],
-    arena: &mut [u64],
-    index: &mut [u64],
-    buckets: &mut [u64],
-    spares: &mut [u64],
+    levels: &mut Levels<&mut [u64]>,
     values: &mut [u64],
-    state: State,
+    state: &mut State,
     key: Key,
-) -> Valued
-    ensures { Makes cache (ledger.Remove key.0)
-        (lent keys.old freqs.old epochs.old prevs.old nexts.old arena.old index.old buckets.old spares.old values.old) state (value_reply result.answer)
-        (lent keys.new freqs.new epochs.new prevs.new nexts.new arena.new index.new buckets.new spares.new values.new) result.state }
+) -> Result<u64, Refusal>
+    ensures same { Same guests.old guests.new levels.old levels.new }
+    ensures does { Makes cache (ledger.Remove key.0)
+        (lent guests.old epochs.old levels.old values.old) state.old (number_reply result)
+        (lent guests.new epochs.new levels.new values.new) state.new }
 {
-    let why = cache_check::refusal(
-        &keys[..],
-        &freqs[..],
-        &epochs[..],
-        &prevs[..],
-        &nexts[..],
-        &arena[..],
-        &index[..],
-        &buckets[..],
-        &spares[..],
-        &values[..],
-        state,
-    );
-    if why.is_done() {
-        return cache_calls::sound::remove(
-            keys, freqs, epochs, prevs, nexts, arena, index, buckets, spares, values, state, key,
-        );
-    }
-    Valued {
-        answer: Value::Refused(why),
-        state: state,
-    }
+    check(guests, &epochs[..], levels, &values[..], *state)?;
+    sound::remove(guests, epochs, levels, values, state, key)
 }
 
 // Lets go the key at the tail of the lowest list; the answer is the key and its value.
 pub fn evict_min_freq(
-    keys: &mut [u64],
-    freqs: &mut [u64],
+    guests: &mut Guests<&mut [u64]>,
     epochs: &mut [u64],
-    prevs: &mut [u64],
-    nexts: &mut [u64],
-    arena: &mut [u64],
-    index: &mut [u64],
-    buckets: &mut [u64],
-    spares: &mut [u64],
+    levels: &mut Levels<&mut [u64]>,
     values: &mut [u64],
-    state: State,
-) -> Evicted
-    ensures { Makes cache ledger.Evict
-        (lent keys.old freqs.old epochs.old prevs.old nexts.old arena.old index.old buckets.old spares.old values.old) state (least_used_reply result.answer)
-        (lent keys.new freqs.new epochs.new prevs.new nexts.new arena.new index.new buckets.new spares.new values.new) result.state }
+    state: &mut State,
+) -> Result<(Key, u64), Refusal>
+    ensures same { Same guests.old guests.new levels.old levels.new }
+    ensures does { Makes cache ledger.Evict
+        (lent guests.old epochs.old levels.old values.old) state.old (least_used_reply result)
+        (lent guests.new epochs.new levels.new values.new) state.new }
 {
-    let why = cache_check::refusal(
-        &keys[..],
-        &freqs[..],
-        &epochs[..],
-        &prevs[..],
-        &nexts[..],
-        &arena[..],
-        &index[..],
-        &buckets[..],
-        &spares[..],
-        &values[..],
-        state,
-    );
-    if why.is_done() {
-        return cache_calls::sound::evict_min_freq(
-            keys, freqs, epochs, prevs, nexts, arena, index, buckets, spares, values, state,
-        );
-    }
-    Evicted {
-        answer: LeastUsed::Refused(why),
-        state: state,
-    }
+    check(guests, &epochs[..], levels, &values[..], *state)?;
+    sound::evict_min_freq(guests, epochs, levels, values, state)
 }
 
 // A bound key starts again, in its slot and with its value; the answer is its frequency before.
 pub fn reset_frequency(
-    keys: &[u64],
-    freqs: &mut [u64],
+    guests: &Guests<&[u64]>,
     epochs: &mut [u64],
-    prevs: &mut [u64],
-    nexts: &mut [u64],
-    arena: &[u64],
-    index: &[u64],
-    buckets: &mut [u64],
-    spares: &mut [u64],
+    levels: &mut Levels<&mut [u64]>,
     values: &[u64],
-    state: State,
+    state: &mut State,
     key: Key,
-) -> Leveled
-    ensures { Makes cache (ledger.Reset key.0)
-        (lent keys.now freqs.old epochs.old prevs.old nexts.old arena.now index.now buckets.old spares.old values.now) state (level_reply result.answer)
-        (lent keys.now freqs.new epochs.new prevs.new nexts.new arena.now index.now buckets.new spares.new values.now) result.state }
+) -> Result<Frequency, Refusal>
+    ensures same { SameLevels levels.old levels.new }
+    ensures does { Makes cache (ledger.Reset key.0)
+        (counted guests.now epochs.old levels.old values.now) state.old (level_reply result)
+        (counted guests.now epochs.new levels.new values.now) state.new }
 {
-    let why = cache_check::refusal(
-        keys,
-        &freqs[..],
-        &epochs[..],
-        &prevs[..],
-        &nexts[..],
-        arena,
-        index,
-        &buckets[..],
-        &spares[..],
-        values,
-        state,
-    );
-    if why.is_done() {
-        return cache_calls::sound::reset_frequency(
-            keys, freqs, epochs, prevs, nexts, index, buckets, spares, state, key,
-        );
-    }
-    Leveled {
-        answer: Level::Refused(why),
-        state: state,
-    }
+    check(guests, &epochs[..], levels, values, *state)?;
+    sound::reset_frequency(guests.keys, guests.index, epochs, levels, state, key)
 }

@@ -1,22 +1,17 @@
 -- A batch as far as it has got: every cache that was held at the start has gone on to one that is held now, from which the items that
 -- are left lead to where the whole batch leads. One item more is one single call; with none left the batch is done. A batch is never
 -- refused, so nothing is said of what a refusal leaves.
-use mathlib.Core.Path.{◌≡◌, refl, sym, ap, ◌∙◌, subst}
-use mathlib.Core.List.{List, [], ◌∷◌}
-use Prim.Native.Nat.{ℕ, suc, ◌+◌, ◌≤◌, ◌<◌}
-use native.Mathlib.Omega.{arith}
-use lib.ListN.{length, get_or, drop, drop_of_length-le}
+use Rattle.std.proofs.Common.{◌≡◌, refl, sym, ap, ◌∙◌, subst, List, [], ◌∷◌, ℕ, suc, ◌+◌, ◌≤◌, ◌<◌, ◌⊎◌, ⊎_elim, length, get_or, drop, arith}
+use lib.ListN.{drop_of_length-le}
 use lib.Seq.{drop-cons}
 use Rattle.lists.proofs.Tests.{if_lt}
 use Rattle.ledger.specs.Buckets.{Reply, done, refused, was_done}
 use Rattle.ledger.specs.Cache.{Cache, Insertion, fresh, fresh_out, old, full, Lookup, hit, miss, insert_reply, lookup_reply, newly_bound, was_hit, cache_insert, cache_remove, cache_insert_batch, cache_remove_batch}
 use Rattle.ledger.specs.History.{CacheCall, Insert, Remove, does}
 use Rattle.ledger.specs.CacheCalls.{cache_calls, counted_cache, insert_batch_call, remove_batch_call}
-use Rattle.ledger.proofs.CacheKept.{does_capacity}
 use Rattle.ledger.proofs.Refusals.{done_refused}
 use Rattle.promise.specs.Promise.{Does, Sound}
 use Rattle.buckets_tables.specs.declared.State.{State}
-use Rattle.buckets_tables.specs.Tables.{Sized}
 use Rattle.cache_tables.specs.Tables.{CacheTables, CacheHolds}
 use Rattle.cache_tables.specs.Lent.{cache}
 use Rattle.lfu_batches.specs.Batches.{pairs, bound_in}
@@ -39,51 +34,47 @@ module _ {A : Type 0} (c : Single A) where
   pub record Onward (all left : List A) (d : Cache) (n : ℕ) (t : CacheTables) (s : State) : Type 0 where
     pub now_held : Cache
     pub holds : CacheHolds t s now_held
-    pub capacity : now_held.table.capacity ≡ d.table.capacity
     pub count : (batch all d).0 ≡ n + (batch left now_held).0
     pub after : (batch all d).1 ≡ (batch left now_held).1
 
-  -- after i items
-  pub record Batching (all left : List A) (t : CacheTables) (s : State) (i n : ℕ) (t' : CacheTables) (s' : State) : Type 0 where
-    pub few : n ≤ i
+  pub record Batching (all left : List A) (t : CacheTables) (s : State) (n : ℕ) (t' : CacheTables) (s' : State) : Type 0 where
+    -- each item counts once at most
+    pub few : n + length left ≤ length all
     pub onward : (d : Cache) → CacheHolds t s d → Onward all left d n t' s'
 
-  pub batching_start : (all : List A) (t : CacheTables) (s : State) → Batching all all t s 0 0 t s
-  batching_start all t s = record {
+  pub batching_start : (all left : List A) → left ≡ all → (t : CacheTables) (s : State) → Batching all left t s 0 t s
+  batching_start all left e t s = rw e (record {
     few = omega arith;
-    onward = λ d h. record { now_held = d; holds = h; capacity = refl; count = omega arith; after = refl };
-  }
+    onward = λ d h. record { now_held = d; holds = h; count = omega arith; after = refl };
+  })
 
-  module _ (all left : List A) (t : CacheTables) (s : State) (i n : ℕ) (t' : CacheTables) (s' : State) (b : Batching all left t s i n t' s') where
-    -- what the next call asks, and that the tables are as long as they were
+  module _ (all left : List A) (t : CacheTables) (s : State) (n : ℕ) (t' : CacheTables) (s' : State) (b : Batching all left t s n t' s') where
+    -- what the next call asks
     pub batching_sound : Sound cache t s → Sound cache t' s'
     batching_sound w = let o = b.onward w.0 w.1 in (o.now_held, o.holds)
 
-    pub batching_sized : (w : Sound cache t s) → Sized t'.base w.0.table.capacity × (length t'.values ≡ w.0.table.capacity)
-    batching_sized w =
-        let o = b.onward w.0 w.1 in (
-          subst (Sized t'.base) o.capacity o.holds.table.sized,
-          ap (λ (us : List ℕ). length us) o.holds.values ∙ o.holds.formed.fits ∙ o.capacity,
-        )
+    module _ (x : A) (rest : List A) (next : left ≡ x ∷ rest) where
+      -- its answer can be counted
+      pub batching_few : (r : Reply) → n + c.counts r ≤ length all
+      batching_few r = let a = b.few in let e = c.once r in let q = ap (λ (xs : List A). length xs) next in omega arith
 
-    pub batching_more : (x : A) (rest : List A) → left ≡ x ∷ rest → (r : Reply) (t'' : CacheTables) (s'' : State) → Does cache (cache_calls (c.call x)) t' s' r t'' s'' →
-        (m : ℕ) → m ≡ c.counts r → Batching all rest t s (i + 1) (n + m) t'' s''
-    unfolding cache_calls
-    batching_more x rest next r t'' s'' done-so m is = record {
-      few = let a = b.few in let e = c.once r in omega arith;
-      onward = λ d h.
-          let o = b.onward d h in
-          let step = done-so o.now_held o.holds in
-          let first = ap c.counts step.answer in
-          let now-left = ap (λ (xs : List A). batch xs o.now_held) next in
-          record {
-            now_held = (cache_calls (c.call x) o.now_held).1;
-            holds = step.holds;
-            capacity = does_capacity o.now_held (c.call x) ∙ o.capacity;
-            count = let p = o.count in let q = ap (λ (z : ℕ × Cache). z.0) now-left in omega arith;
-            after = o.after ∙ ap (λ (z : ℕ × Cache). z.1) now-left;
-          };
-    }
+      pub batching_more : (r : Reply) (t'' : CacheTables) (s'' : State) → Does cache (cache_calls (c.call x)) t' s' r t'' s'' →
+          (m : ℕ) → m ≡ c.counts r → Batching all rest t s (n + m) t'' s''
+      unfolding cache_calls
+      batching_more r t'' s'' done-so m is = record {
+        few = let a = b.few in let e = c.once r in let q = ap (λ (xs : List A). length xs) next in omega arith;
+        onward = λ d h.
+            let o = b.onward d h in
+            let step = done-so o.now_held o.holds in
+            let first = ap c.counts step.answer in
+            let now-left = ap (λ (xs : List A). batch xs o.now_held) next in
+            record {
+              now_held = (cache_calls (c.call x) o.now_held).1;
+              holds = step.holds;
+              count = let p = o.count in let q = ap (λ (z : ℕ × Cache). z.0) now-left in omega arith;
+              after = o.after ∙ ap (λ (z : ℕ × Cache). z.1) now-left;
+            };
+      }
 
     pub batching_end : left ≡ [] → Does cache (λ d. counted_cache (batch all d)) t s (done (n ∷ [])) t' s'
     batching_end none_left d h =
@@ -96,20 +87,29 @@ module _ {A : Type 0} (c : Single A) where
           leaves = λ a e. done_refused (n ∷ []) a e;
         }
 
--- What is left of a slice, and of two
+-- What is left of a slice, by an index, and of two, by what is left of each
 
 pub left_keys : (ks : List ℕ) (i : ℕ) → i < length ks → drop i ks ≡ get_or ks i 0 ∷ drop (i + 1) ks
 left_keys ks i below = let next : suc i ≡ i + 1 = omega arith in drop-cons ks i 0 below ∙ ap (λ (m : ℕ). get_or ks i 0 ∷ drop m ks) next
 
-pub left_pairs : (ks vs : List ℕ) (i : ℕ) → length ks ≡ length vs → i < length ks →
-    pairs (drop i ks) (drop i vs) ≡ (get_or ks i 0, get_or vs i 0) ∷ pairs (drop (i + 1) ks) (drop (i + 1) vs)
-left_pairs ks vs i even below = λ j. pairs (left_keys ks i below j) (left_keys vs i (omega arith) j)
-
 pub no_keys : (ks : List ℕ) (i : ℕ) → length ks ≤ i → drop i ks ≡ []
 no_keys ks i all = drop_of_length-le ks all
 
-pub no_pairs : (ks vs : List ℕ) (i : ℕ) → length ks ≤ i → pairs (drop i ks) (drop i vs) ≡ []
-no_pairs ks vs i all = ap (λ (js : List ℕ). pairs js (drop i vs)) (no_keys ks i all)
+pub left_pairs : (k v : ℕ) (ks vs ks' vs' : List ℕ) → (ks ≡ k ∷ ks') × (vs ≡ v ∷ vs') → pairs ks vs ≡ (k, v) ∷ pairs ks' vs'
+left_pairs k v ks vs ks' vs' e j = pairs (e.0 j) (e.1 j)
+
+none_given : (ks : List ℕ) → pairs ks [] ≡ []
+none_given [] = refl
+none_given (k ∷ ks) = refl
+
+pub no_pairs : (ks vs : List ℕ) → (ks ≡ []) ⊎ (vs ≡ []) → pairs ks vs ≡ []
+no_pairs ks vs e =
+    ⊎_elim (λ p. ap (λ (xs : List ℕ). pairs xs vs) p) (λ q. ap (λ (xs : List ℕ). pairs ks xs) q ∙ none_given ks) e
+
+pub length_pairs : (ks vs : List ℕ) → length (pairs ks vs) ≤ length ks
+length_pairs [] vs = omega arith
+length_pairs (k ∷ ks) [] = omega arith
+length_pairs (k ∷ ks) (v ∷ vs) = let a = length_pairs ks vs in omega arith
 
 -- The batches of inserts and of removals
 
@@ -164,14 +164,14 @@ same_does f g same t s r t' s' d c h =
       leaves = w.leaves;
     }
 
-pub inserts_end : (all left : List (ℕ × ℕ)) (t : CacheTables) (s : State) (i n : ℕ) (t' : CacheTables) (s' : State) → left ≡ [] →
-    Batching inserts all left t s i n t' s' → Does cache (insert_batch_call all) t s (done (n ∷ [])) t' s'
+pub inserts_end : (all left : List (ℕ × ℕ)) (t : CacheTables) (s : State) (n : ℕ) (t' : CacheTables) (s' : State) → left ≡ [] →
+    Batching inserts all left t s n t' s' → Does cache (insert_batch_call all) t s (done (n ∷ [])) t' s'
 unfolding insert_batch_call
-inserts_end all left t s i n t' s' none_left b =
-    same_does (batch inserts all) (cache_insert_batch all) (inserts_same all) t s _ t' s' (batching_end inserts all left t s i n t' s' b none_left)
+inserts_end all left t s n t' s' none_left b =
+    same_does (batch inserts all) (cache_insert_batch all) (inserts_same all) t s _ t' s' (batching_end inserts all left t s n t' s' b none_left)
 
-pub removes_end : (all left : List ℕ) (t : CacheTables) (s : State) (i n : ℕ) (t' : CacheTables) (s' : State) → left ≡ [] →
-    Batching removes all left t s i n t' s' → Does cache (remove_batch_call all) t s (done (n ∷ [])) t' s'
+pub removes_end : (all left : List ℕ) (t : CacheTables) (s : State) (n : ℕ) (t' : CacheTables) (s' : State) → left ≡ [] →
+    Batching removes all left t s n t' s' → Does cache (remove_batch_call all) t s (done (n ∷ [])) t' s'
 unfolding remove_batch_call
-removes_end all left t s i n t' s' none_left b =
-    same_does (batch removes all) (cache_remove_batch all) (removes_same all) t s _ t' s' (batching_end removes all left t s i n t' s' b none_left)
+removes_end all left t s n t' s' none_left b =
+    same_does (batch removes all) (cache_remove_batch all) (removes_same all) t s _ t' s' (batching_end removes all left t s n t' s' b none_left)

@@ -4,7 +4,7 @@ use mathlib.Core.Path.{◌≡◌, refl, sym, ap, ◌∙◌, subst}
 use mathlib.Core.Option.{Option, none, some}
 use mathlib.Core.List.{List, [], ◌∷◌}
 use Prim.Native.Nat.{ℕ, ◌+◌}
-use Rattle.numbers.specs.declared.Answer.TheVariants.{Absent}
+use Rattle.numbers.specs.declared.Refusal.TheVariants.{Absent}
 use Rattle.numbers.specs.Frequency.{CEILING, raised}
 use Rattle.ledger.specs.Ledger.{Item, lookup, if_found, move}
 use Rattle.ledger.specs.Buckets.{Outcome, done, refused, was_done, batch, touch, touch_batch}

@@ -1,7 +1,7 @@
 -- What the batches of the cache promise beyond the single calls: two slices are one list of pairs, an insert counts where it binds a
 -- key, and slices of different lengths are refused as tables that are too short are.
-use Rattle.std.specs.Prelude.{◌≡◌, ◌≢◌, cond, List, [], ◌∷◌, ℕ, ltb, length}
-use Rattle.numbers.specs.declared.Answer.{Answer}
+use Rattle.std.specs.Prelude.{◌≡◌, ◌≢◌, cond, List, [], ◌∷◌, ℕ, ltb, length, Result, Err}
+use Rattle.numbers.specs.declared.Refusal.{Refusal}
 use Rattle.ledger.specs.Buckets.{Reply, done, refused}
 use Rattle.ledger.specs.CacheCalls.{insert_batch_call}
 use Rattle.promise.specs.Promise.{Refuses, Promised, Checks}
@@ -28,6 +28,6 @@ pub record InsertsAll (ks vs : List ℕ) (t : CacheTables) (s : State) (r : Repl
   pub uneven : length ks ≢ length vs → Refuses cache t s r t' s' (short_of s.capacity)
 
 -- and what is looked at before it
-pub record BatchChecks (ks vs : List ℕ) (t : CacheTables) (s : State) (a : Answer) : Type 0 where
+pub record BatchChecks (ks vs : List ℕ) (t : CacheTables) (s : State) (a : Result Unit Refusal) : Type 0 where
   pub even : length ks ≡ length vs → Checks cache t s a
-  pub uneven : length ks ≢ length vs → a ≡ short_of s.capacity
+  pub uneven : length ks ≢ length vs → a ≡ Err (short_of s.capacity)

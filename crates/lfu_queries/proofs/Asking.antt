@@ -15,8 +15,9 @@ use Rattle.buckets_reads.specs.Reads.{OfState}
 use Rattle.cache_tables.specs.Tables.{CacheTables, with_values}
 use Rattle.cache_tables.specs.Lent.{cache}
 
-pub with_values_lem : (k f e p n a i b sp vs : List ℕ) (s : State) → Sound cache (with_values (tables k f e p n a i b sp) vs) s → IndexSound i k × (length vs ≡ length k)
-with_values_lem k f e p n a i b sp vs s w =
+pub peekable : (k f e p n a i b sp vs : List ℕ) (s : State) → Sound cache (with_values (tables k f e p n a i b sp) vs) s →
+    IndexSound i k × (length vs ≡ length k)
+peekable k f e p n a i b sp vs s w =
     let h = w.1.table in
     (h.index_sound, ap (λ (us : List ℕ). length us) w.1.values ∙ w.1.formed.fits ∙ sym h.sized.keys_size)
 

@@ -3,3 +3,4 @@ pub mod Functions
 pub mod Rings
 pub mod Walks
 pub mod Lists
+pub mod Counts

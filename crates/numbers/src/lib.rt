@@ -1,10 +1,9 @@
-// The three kinds of number that must not be mixed, the levels of a frequency, and the answers of document 01's table.
+// The three kinds of number that must not be mixed, the levels of a frequency, and the refusals of document 01's table.
 #![tactic(auto)]
 
-ghost use Rattle.std.specs.Prelude.{◌≡◌, true, ◌↔◌};
+ghost use Rattle.std.specs.Prelude.{◌≡◌};
 ghost use Rattle.numbers.specs.Frequency.{raised, halved_times, cap_of, CEILING};
 ghost use Rattle.numbers.specs.Answer.{number_of};
-ghost use Rattle.numbers.specs.declared.Answer.TheVariants.{Done};
 
 // The most slots that a table may have.
 pub const LIMIT: u64 = 4096;
@@ -75,10 +74,9 @@ impl Frequency {
     }
 }
 
-// What a caller may be told.
+// Why a call is refused.
 #[derive(Clone, Copy)]
-pub enum Answer {
-    Done,
+pub enum Refusal {
     Absent,
     Present,
     Full,
@@ -88,27 +86,19 @@ pub enum Answer {
     Capacity,
 }
 
-impl Answer {
-    // Document 01's number.
-    pub fn number(self) -> u64
-        ensures { result ≡ number_of self }
-    {
-        match self {
-            Answer::Done => 0,
-            Answer::Absent => 1,
-            Answer::Present => 2,
-            Answer::Full => 3,
-            Answer::Empty => 4,
-            Answer::Corrupt => 5,
-            Answer::Short => 6,
-            Answer::Capacity => 7,
-        }
-    }
+// Document 01's number.
+impl From<Refusal> for u64 {
+    ghost from_gives = { λ why n. n ≡ number_of why };
 
-    // Whether the call did its work.
-    pub fn is_done(self) -> bool
-        ensures { (result ≡ true) ↔ (self ≡ Done) }
-    {
-        self.number() == 0
+    fn from(why: Refusal) -> u64 {
+        match why {
+            Refusal::Absent => 1,
+            Refusal::Present => 2,
+            Refusal::Full => 3,
+            Refusal::Empty => 4,
+            Refusal::Corrupt => 5,
+            Refusal::Short => 6,
+            Refusal::Capacity => 7,
+        }
     }
 }

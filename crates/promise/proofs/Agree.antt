@@ -4,10 +4,11 @@ use mathlib.Core.Path.{◌≡◌, refl, sym, ap, ◌∙◌, subst}
 use mathlib.Core.Logic.{◌⊎◌, inl, inr}
 use Prim.Native.Nat.{ℕ}
 use native.Mathlib.Omega.{arith}
-use Rattle.numbers.specs.declared.Answer.{Answer}
+use Rattle.std.proofs.Common.{Result, Ok, Err}
+use Rattle.numbers.specs.declared.Refusal.{Refusal}
 use Rattle.ledger.specs.Buckets.{Reply}
-use Rattle.promise.specs.Promise.{Lent, Reading, over, short, corrupt, ledger, Reads, Refuses, By, Promised, why_of, Checks}
-use Rattle.promise.specs.Making.{Sizing, too_large, too_short, fitting, Sizes, size_answer, Measures, MadeBy, Made}
+use Rattle.promise.specs.Promise.{Lent, Reading, over, short, corrupt, ledger, Reads, Refuses, By, Promised, checked_of, Checks}
+use Rattle.promise.specs.Making.{Sizing, too_large, too_short, fitting, Sizes, measured_of, Measures, MadeBy, Made}
 
 module _ (k : Lent) (one : (t : k.Tables) (s : k.State) (l m : k.Ledger) → k.Holds t s l → k.Holds t s m → l ≡ m) where
   pub reads_one : (t : k.Tables) (s : k.State) (v w : Reading k) → Reads k t s v → Reads k t s w → v ≡ w
@@ -33,7 +34,7 @@ module _ (k : Lent) (one : (t : k.Tables) (s : k.State) (l m : k.Ledger) → k.H
     pub reply : r ≡ q
     pub after : ((t ≡ u) × (s ≡ z)) ⊎ ((l : k.Ledger) × k.Holds t s l × k.Holds u z l)
 
-  refuses_agree : (t : k.Tables) (s : k.State) (why : Answer) (r q : Reply) (t' u' : k.Tables) (s' z' : k.State) →
+  refuses_agree : (t : k.Tables) (s : k.State) (why : Refusal) (r q : Reply) (t' u' : k.Tables) (s' z' : k.State) →
       Refuses k t s r t' s' why → Refuses k t s q u' z' why → Agree r t' s' q u' z'
   refuses_agree t s why r q t' u' s' z' a b =
       record { reply = a.answer ∙ sym b.answer; after = inl (a.tables ∙ sym b.tables, a.state ∙ sym b.state) }
@@ -63,20 +64,24 @@ module _ (k : Lent) (one : (t : k.Tables) (s : k.State) (l m : k.Ledger) → k.H
   sizes_one t c fitting too_short p q = absurd (q.1 p.1)
   sizes_one t c fitting fitting p q = refl
 
-  made_by_agree : (none : k.State) (l : k.Ledger) (t : k.Tables) (v : Sizing k) (r q : Reply) (t' u' : k.Tables) (s' z' : k.State) →
-      MadeBy k none l t r t' s' v → MadeBy k none l t q u' z' v → Agree r t' s' q u' z'
-  made_by_agree none l t too_large r q t' u' s' z' a b = refuses_agree t none _ r q t' u' s' z' a b
-  made_by_agree none l t too_short r q t' u' s' z' a b = refuses_agree t none _ r q t' u' s' z' a b
-  made_by_agree none l t fitting r q t' u' s' z' a b = record { reply = a.0 ∙ sym b.0; after = inr (l, a.1, b.1) }
+  -- the same answer; and the same tables, or tables and states that hold one ledger
+  pub record MakingsAgree (r : Result k.State Refusal) (t : k.Tables) (q : Result k.State Refusal) (u : k.Tables) : Type 0 where
+    pub after : ((why : Refusal) × (r ≡ Err why) × (q ≡ Err why) × (t ≡ u)) ⊎ ((s z : k.State) × (r ≡ Ok s) × (q ≡ Ok z) × ((l : k.Ledger) × k.Holds t s l × k.Holds u z l))
 
-  pub made_agree : (none : k.State) (l : k.Ledger) (c : ℕ) (t : k.Tables) (r q : Reply) (t' u' : k.Tables) (s' z' : k.State) →
-      Made k none l c t r t' s' → Made k none l c t q u' z' → Agree r t' s' q u' z'
-  made_agree none l c t r q t' u' s' z' a b =
-      made_by_agree none l t a.0 r q t' u' s' z' a.2 (subst (MadeBy k none l t q u' z') (sizes_one t c b.0 a.0 b.1 a.1) b.2)
+  made_by_agree : (l : k.Ledger) (t : k.Tables) (v : Sizing k) (r q : Result k.State Refusal) (t' u' : k.Tables) →
+      MadeBy k l t r t' v → MadeBy k l t q u' v → MakingsAgree r t' q u'
+  made_by_agree l t too_large r q t' u' a b = record { after = inl (_, a.0, b.0, a.1 ∙ sym b.1) }
+  made_by_agree l t too_short r q t' u' a b = record { after = inl (_, a.0, b.0, a.1 ∙ sym b.1) }
+  made_by_agree l t fitting r q t' u' a b = record { after = inr (a.0, b.0, a.1, b.1, (l, a.2, b.2)) }
+
+  pub made_agree : (l : k.Ledger) (c : ℕ) (t : k.Tables) (r q : Result k.State Refusal) (t' u' : k.Tables) →
+      Made k l c t r t' → Made k l c t q u' → MakingsAgree r t' q u'
+  made_agree l c t r q t' u' a b =
+      made_by_agree l t a.0 r q t' u' a.2 (subst (MadeBy k l t q u') (sizes_one t c b.0 a.0 b.1 a.1) b.2)
 
   -- And what a check of the tables, or a look at their lengths, answers.
-  pub checks_agree : (t : k.Tables) (s : k.State) (a b : Answer) → Checks k t s a → Checks k t s b → a ≡ b
-  checks_agree t s a b c d = c.2 ∙ ap (why_of k) (reads_one t s c.0 d.0 c.1 d.1) ∙ sym d.2
+  pub checks_agree : (t : k.Tables) (s : k.State) (a b : Result Unit Refusal) → Checks k t s a → Checks k t s b → a ≡ b
+  checks_agree t s a b c d = c.2 ∙ ap (checked_of k) (reads_one t s c.0 d.0 c.1 d.1) ∙ sym d.2
 
-  pub measures_agree : (t : k.Tables) (c : ℕ) (a b : Answer) → Measures k t c a → Measures k t c b → a ≡ b
-  measures_agree t c a b m n = m.2 ∙ ap (size_answer k) (sizes_one t c m.0 n.0 m.1 n.1) ∙ sym n.2
+  pub measures_agree : (t : k.Tables) (c : ℕ) (a b : Result Unit Refusal) → Measures k t c a → Measures k t c b → a ≡ b
+  measures_agree t c a b m n = m.2 ∙ ap (measured_of k) (sizes_one t c m.0 n.0 m.1 n.1) ∙ sym n.2

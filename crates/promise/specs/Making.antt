@@ -1,11 +1,10 @@
 -- Making tables of a capacity, whatever they hold: what the capacity and the tables' lengths come to, and what is then answered. For the
 -- buckets and for the cache alike.
-use Rattle.std.specs.Prelude.{◌≡◌, [], ℕ, ◌≤◌, ◌<◌}
+use Rattle.std.specs.Prelude.{◌≡◌, ℕ, ◌≤◌, ◌<◌, Result, Ok, Err}
 use Rattle.numbers.specs.Marks.{LIMIT}
-use Rattle.numbers.specs.declared.Answer.{Answer}
-use Rattle.numbers.specs.declared.Answer.TheVariants.{Done, Short, Capacity}
-use Rattle.ledger.specs.Buckets.{Reply, done}
-use Rattle.promise.specs.Promise.{Lent, Refuses}
+use Rattle.numbers.specs.declared.Refusal.{Refusal}
+use Rattle.numbers.specs.declared.Refusal.TheVariants.{Short, Capacity}
+use Rattle.promise.specs.Promise.{Lent}
 
 module _ (k : Lent) where
   pub data Sizing : Type 0 where
@@ -19,20 +18,20 @@ module _ (k : Lent) where
   Sizes t c fitting = (c ≤ LIMIT) × k.Fits t c
 
   -- what a look at the lengths answers
-  abbrev pub size_answer : Sizing → Answer
-  size_answer too_large = Capacity
-  size_answer too_short = Short
-  size_answer fitting = Done
+  abbrev pub measured_of : Sizing → Result Unit Refusal
+  measured_of too_large = Err Capacity
+  measured_of too_short = Err Short
+  measured_of fitting = Ok tt
 
-  abbrev pub Measures : k.Tables → ℕ → Answer → Type 0
-  Measures t c a = (v : Sizing) × Sizes t c v × (a ≡ size_answer v)
+  abbrev pub Measures : k.Tables → ℕ → Result Unit Refusal → Type 0
+  Measures t c a = (v : Sizing) × Sizes t c v × (a ≡ measured_of v)
 
-  -- DONE, and the tables hold a ledger; or a refusal, beside which the state is `none`, and all tables stay as they were
-  abbrev pub MadeBy : (none : k.State) → k.Ledger → k.Tables → Reply → k.Tables → k.State → Sizing → Type 0
-  MadeBy none l t r t' s' too_large = Refuses k t none r t' s' Capacity
-  MadeBy none l t r t' s' too_short = Refuses k t none r t' s' Short
-  MadeBy none l t r t' s' fitting = (r ≡ done []) × k.Holds t' s' l
+  -- the state with which the tables hold a ledger; or a refusal, and all tables stay as they were
+  abbrev pub MadeBy : k.Ledger → k.Tables → Result k.State Refusal → k.Tables → Sizing → Type 0
+  MadeBy l t r t' too_large = (r ≡ Err Capacity) × (t' ≡ t)
+  MadeBy l t r t' too_short = (r ≡ Err Short) × (t' ≡ t)
+  MadeBy l t r t' fitting = (s' : k.State) × (r ≡ Ok s') × k.Holds t' s' l
 
   -- A call that makes the tables of capacity c, with the ledger l in them.
-  abbrev pub Made : (none : k.State) → k.Ledger → ℕ → k.Tables → Reply → k.Tables → k.State → Type 0
-  Made none l c t r t' s' = (v : Sizing) × Sizes t c v × MadeBy none l t r t' s' v
+  abbrev pub Made : k.Ledger → ℕ → k.Tables → Result k.State Refusal → k.Tables → Type 0
+  Made l c t r t' = (v : Sizing) × Sizes t c v × MadeBy l t r t' v

@@ -1,9 +1,9 @@
 -- The shape of every promise, for any kind of lent tables: what may be read from them, and what a call then answers and leaves. A public
 -- call takes any tables; it names one of its kind's calls on ledgers, and the rest is said here once.
-use Rattle.std.specs.Prelude.{◌≡◌, ℕ, ◌≤◌, ◌<◌}
+use Rattle.std.specs.Prelude.{◌≡◌, ℕ, ◌≤◌, ◌<◌, Result, Ok, Err}
 use Rattle.numbers.specs.Marks.{LIMIT}
-use Rattle.numbers.specs.declared.Answer.{Answer}
-use Rattle.numbers.specs.declared.Answer.TheVariants.{Done, Corrupt, Short, Capacity}
+use Rattle.numbers.specs.declared.Refusal.{Refusal}
+use Rattle.numbers.specs.declared.Refusal.TheVariants.{Corrupt, Short, Capacity}
 use Rattle.ledger.specs.Buckets.{Reply, refused}
 
 -- A kind of lent tables: the tables, the state, the ledgers they hold; the capacity that the state asks for, whether the tables have
@@ -29,7 +29,7 @@ module _ (k : Lent) where
   pub record DoesOn (f : k.Ledger → Reply × k.Ledger) (t : k.Tables) (s : k.State) (l : k.Ledger) (r : Reply) (t' : k.Tables) (s' : k.State) : Type 0 where
     pub answer : r ≡ (f l).0
     pub holds : k.Holds t' s' (f l).1
-    pub leaves : (a : Answer) → r ≡ refused a → (t' ≡ t) × (s' ≡ s)
+    pub leaves : (a : Refusal) → r ≡ refused a → (t' ≡ t) × (s' ≡ s)
 
   -- a call does what f does to whatever ledger the tables hold
   abbrev pub Does : (k.Ledger → Reply × k.Ledger) → k.Tables → k.State → Reply → k.Tables → k.State → Type 0
@@ -38,6 +38,14 @@ module _ (k : Lent) where
   -- one that only answers
   abbrev pub Tells : (k.Ledger → Reply × k.Ledger) → k.Tables → k.State → Reply → Type 0
   Tells f t s r = (l : k.Ledger) → k.Holds t s l → r ≡ (f l).0
+
+  -- A call may be lent some of the tables only: `t` gives the whole tables for those that are not lent. With some of them they are sound
+  abbrev pub SoundBeside : {A : Type 0} → (A → k.Tables) → k.State → Type 0
+  SoundBeside {A} t s = (a : A) × Sound (t a) s
+
+  -- and whatever those are, the call does what f does
+  abbrev pub DoesBeside : {A : Type 0} → (k.Ledger → Reply × k.Ledger) → (A → k.Tables) → k.State → Reply → (A → k.Tables) → k.State → Type 0
+  DoesBeside {A} f t s r t' s' = (a : A) → Does f (t a) s r (t' a) s'
 
   -- On any tables
 
@@ -55,7 +63,7 @@ module _ (k : Lent) where
   Reads t s (ledger l) = (k.capacity s ≤ LIMIT) × k.Fits t (k.capacity s) × k.Holds t s l
 
   -- a refusal: all tables and the state stay as they were
-  pub record Refuses (t : k.Tables) (s : k.State) (r : Reply) (t' : k.Tables) (s' : k.State) (why : Answer) : Type 0 where
+  pub record Refuses (t : k.Tables) (s : k.State) (r : Reply) (t' : k.Tables) (s' : k.State) (why : Refusal) : Type 0 where
     pub answer : r ≡ refused why
     pub tables : t' ≡ t
     pub state : s' ≡ s
@@ -78,12 +86,12 @@ module _ (k : Lent) where
   abbrev pub Answers : k.Call → k.Tables → k.State → Reply → Type 0
   Answers c t s r = Makes c t s r t s
 
-  -- what a check of the tables answers: DONE where they hold a ledger, else why every call is refused
-  abbrev pub why_of : Reading → Answer
-  why_of over = Capacity
-  why_of short = Short
-  why_of corrupt = Corrupt
-  why_of (ledger l) = Done
+  -- what a check of the tables answers: that they hold a ledger, or why every call is refused
+  abbrev pub checked_of : Reading → Result Unit Refusal
+  checked_of over = Err Capacity
+  checked_of short = Err Short
+  checked_of corrupt = Err Corrupt
+  checked_of (ledger l) = Ok tt
 
-  abbrev pub Checks : k.Tables → k.State → Answer → Type 0
-  Checks t s a = (v : Reading) × Reads t s v × (a ≡ why_of v)
+  abbrev pub Checks : k.Tables → k.State → Result Unit Refusal → Type 0
+  Checks t s a = (v : Reading) × Reads t s v × (a ≡ checked_of v)

@@ -8,7 +8,7 @@ use Rattle.trace_input.specs.Parts.{Parts}
 use Rattle.replay.specs.declared.Turned.{Turned}
 
 -- what was read is a part, and what it prints is written; there is more to read after a full part whose lines could be written
-pub record ReplayTurns (t : CacheTables) (s : State) (input : List ℕ) (t' : CacheTables) (out' : List ℕ) (r : Turned) : Type 0 where
+pub record ReplayTurns (t : CacheTables) (s : State) (input : List ℕ) (t' : CacheTables) (s' : State) (out' : List ℕ) (r : Turned) : Type 0 where
   pub fits : r.read ≤ PART
-  pub parts : Parts t s input r.read t' out' (record { at = r.at; state = r.state })
+  pub parts : Parts t s input r.read t' s' out' r.at
   pub goes_on : r.more ≡ goes_on r.written r.read

@@ -4,31 +4,24 @@
 // with what the original printed for them, and the case C12 of document 01.
 #![tactic(auto)]
 
-use buckets_tables::State;
-use std::env::{Env, FillError};
-use std::fs::File;
-use std::os::fd::AsRawFd;
 use trace::input::{HEADER, header};
-use trace::{Header, Line, Word};
+use trace::{Line, Word};
 
 mod sound;
 
-// No descriptor of a file.
-const CLOSED: i32 = -1;
-
-// Whether there is more to read, whether what was printed could be written, how many bytes were read and how many printed, and the state
-// after them.
+// Whether there is more to read, whether what was printed could be written, how many bytes were read and how many printed. The four stand side by
+// side, and no flag guards another: what a turn promises speaks of each.
 #[derive(Clone, Copy)]
 pub struct Turned {
     pub more: bool,
     pub written: bool,
     pub read: usize,
     pub at: usize,
-    pub state: State,
 }
 
 // Prints a word as the only line.
 fn say(word: Word) {
+    // An array and a length, here and below: there is no heap.
     let mut out = [0u8; 64];
     let n = trace::sound::write(&mut out, 0, Line::Plain(word));
     io::write_all(1, &out[..n]);
@@ -38,51 +31,12 @@ fn say(word: Word) {
 fn replay(from: i32) {
     let mut first = [0u8; HEADER];
     let n = io::read_full(from, &mut first);
-    let begun = header(&first[..n]);
-    match begun {
-        Header::Stops(word) => say(word),
-        Header::Begins(capacity) => sound::start(from, capacity),
+    match header(&first[..n]) {
+        Ok(capacity) => sound::start(from, capacity),
+        Err(word) => say(word),
     }
 }
 
-// The file of a name, if there is one that can be opened.
-fn opened(rt: &HostRuntime, name: &[u8]) -> Option<File> {
-    let Ok(path) = std::str::from_utf8(name) else {
-        return None;
-    };
-    File::open(rt, path).ok()
-}
-
-// Replays the trace that an argument names, `-` being the descriptor `input`. Answers the descriptor for a later `-`, which finds nothing more.
-fn named(rt: &HostRuntime, name: &[u8], input: i32) -> i32 {
-    let mut later = input;
-    if name == b"-".as_slice() {
-        replay(input);
-        later = CLOSED;
-    } else if let Some(file) = opened(rt, name) {
-        replay(file.as_raw_fd());
-    } else {
-        io::write_all(1, b"NO FILE\n");
-    }
-    io::write_all(1, b"--\n");
-    later
-}
-
-// Argument 0 is the program's own name.
 fn main(rt: HostRuntime) {
-    let mut name = io::buffer();
-    let mut input = 0;
-    let mut alone = true;
-    for number in 1..usize::MAX {
-        let n = match rt.arg(number, &mut name) {
-            Ok(n) => n,
-            Err(FillError::TooLong) => 0,
-            Err(FillError::NotPresent) => break,
-        };
-        input = named(&rt, &name[..n], input);
-        alone = false;
-    }
-    if alone {
-        replay(0);
-    }
+    inputs::each(&rt, replay);
 }

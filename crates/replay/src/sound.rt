@@ -1,6 +1,7 @@
 // The turns of a replay on tables that are known to be sound: a part of the input is read, carried out, and what it prints is written.
 ghost use Rattle.std.specs.Prelude.{◌≤◌};
 ghost use Rattle.promise.specs.Promise.{Sound};
+ghost use Rattle.buckets_tables.specs.Slices.{Same};
 ghost use Rattle.cache_tables.specs.Slices.{lent};
 ghost use Rattle.cache_tables.specs.Lent.{cache};
 ghost use Rattle.trace.specs.Output.{SLOTS};
@@ -10,93 +11,68 @@ ghost use Rattle.replay.specs.Turns.{ReplayTurns};
 
 use crate::Turned;
 use bucket_table::WORDS;
-use buckets_tables::State;
+use buckets_tables::{Guests, State};
+use levels::Levels;
+use lfu_make::sound::make;
 use trace::input::{PART, goes_on};
+use trace_input::sound::part;
 
 // Reads a part of the input, carries out its records, and writes what they print.
 fn turn(
-    keys: &mut [u64],
-    freqs: &mut [u64],
+    guests: &mut Guests<&mut [u64]>,
     epochs: &mut [u64],
-    prevs: &mut [u64],
-    nexts: &mut [u64],
-    arena: &mut [u64],
-    index: &mut [u64],
-    buckets: &mut [u64],
-    spares: &mut [u64],
+    levels: &mut Levels<&mut [u64]>,
     values: &mut [u64],
-    state: State,
+    state: &mut State,
     from: i32,
     input: &mut [u8],
     out: &mut [u8],
 ) -> Turned
-    requires { Sound cache (lent keys.old freqs.old epochs.old prevs.old nexts.old arena.old index.old buckets.old spares.old values.old) state × PartBuffers input.old out.old }
-    ensures { ReplayTurns
-        (lent keys.old freqs.old epochs.old prevs.old nexts.old arena.old index.old buckets.old spares.old values.old) state input.new
-        (lent keys.new freqs.new epochs.new prevs.new nexts.new arena.new index.new buckets.new spares.new values.new) out.new result }
+    requires { Sound cache (lent guests.old epochs.old levels.old values.old) state.old × PartBuffers input.old out.old }
+    ensures same { Same guests.old guests.new levels.old levels.new }
+    ensures does { ReplayTurns (lent guests.old epochs.old levels.old values.old) state.old input.new
+        (lent guests.new epochs.new levels.new values.new) state.new out.new result }
 {
-    let n = io::read_full(from, &mut input[..PART]);
-    let printed = trace_input::sound::part(
-        keys,
-        freqs,
-        epochs,
-        prevs,
-        nexts,
-        arena,
-        index,
-        buckets,
-        spares,
-        values,
-        state,
-        &input[..],
-        n,
-        out,
-    );
-    let at = printed.at;
-    let after = printed.state;
+    let read = io::read_full(from, &mut input[..PART]);
+    let at = part(guests, epochs, levels, values, state, &input[..], read, out);
     let written = io::write_all(1, &out[..at]);
     Turned {
-        more: goes_on(written, n),
-        written: written,
-        read: n,
-        at: at,
-        state: after,
+        more: goes_on(written, read),
+        written,
+        read,
+        at,
     }
 }
 
-// Replays the records of an input on tables of a capacity, which may have held anything. What a read gives is not known, so the loop
-// counts its turns down, from a number that no run uses up.
+// Replays the records of an input on tables of a capacity, which may have held anything. What a read gives is not known, so the turns are
+// counted, up to a number that no run comes to.
 fn run(
-    keys: &mut [u64],
-    freqs: &mut [u64],
+    guests: &mut Guests<&mut [u64]>,
     epochs: &mut [u64],
-    prevs: &mut [u64],
-    nexts: &mut [u64],
-    arena: &mut [u64],
-    index: &mut [u64],
-    buckets: &mut [u64],
-    spares: &mut [u64],
+    levels: &mut Levels<&mut [u64]>,
     values: &mut [u64],
     capacity: u64,
     from: i32,
     input: &mut [u8],
     out: &mut [u8],
 )
-    requires { Sizes (lent keys.old freqs.old epochs.old prevs.old nexts.old arena.old index.old buckets.old spares.old values.old) capacity × PartBuffers input.old out.old }
+    requires { Sizes (lent guests.old epochs.old levels.old values.old) capacity × PartBuffers input.old out.old }
 {
-    let mut after = lfu_make::sound::make(
-        keys, freqs, epochs, prevs, nexts, arena, index, spares, values, capacity,
+    let mut state = make(
+        guests,
+        epochs,
+        levels.freqs,
+        levels.prevs,
+        levels.nexts,
+        levels.spares,
+        values,
+        capacity,
     );
-    let mut turns: u64 = u64::MAX;
-    let mut more = true;
-    while turns > 0 && more {
-        let turned = turn(
-            keys, freqs, epochs, prevs, nexts, arena, index, buckets, spares, values, after, from,
-            input, out,
-        );
-        after = turned.state;
-        more = turned.more;
-        turns -= 1;
+    for _ in 0..u64::MAX {
+        let turned = turn(guests, epochs, levels, values, &mut state, from, input, out);
+        if !turned.more {
+            break;
+        }
     }
 }
 
@@ -114,24 +90,26 @@ pub fn start(from: i32, capacity: usize)
     let mut buckets = [0u64; 1792];
     let mut spares = [0u64; 256];
     let mut values = [0u64; 256];
-    let mut input = io::large_buffer();
-    let mut out = io::large_buffer();
-    let twice = capacity + capacity;
-    let words = capacity * WORDS as usize;
+    let mut guests = Guests {
+        keys: &mut keys[..capacity],
+        arena: &mut arena[..capacity],
+        index: &mut index[..capacity + capacity],
+    };
+    let mut levels = Levels {
+        freqs: &mut freqs[..capacity],
+        prevs: &mut prevs[..capacity],
+        nexts: &mut nexts[..capacity],
+        buckets: &mut buckets[..capacity * WORDS as usize],
+        spares: &mut spares[..capacity],
+    };
     run(
-        &mut keys[..capacity],
-        &mut freqs[..capacity],
+        &mut guests,
         &mut epochs[..capacity],
-        &mut prevs[..capacity],
-        &mut nexts[..capacity],
-        &mut arena[..capacity],
-        &mut index[..twice],
-        &mut buckets[..words],
-        &mut spares[..capacity],
+        &mut levels,
         &mut values[..capacity],
         capacity as u64,
         from,
-        &mut input,
-        &mut out,
+        &mut io::large_buffer(),
+        &mut io::large_buffer(),
     )
 }

@@ -1,53 +1,35 @@
 // The inputs of a pack, in buffers that are known to have room.
-ghost use Rattle.std.specs.Prelude.{◌≡◌, false};
+ghost use Rattle.std.specs.Prelude.{IfSome};
 ghost use Rattle.trace_input.specs.Parts.{PartBuffers};
 ghost use Rattle.replay_cases.specs.Cases.{Told};
 
-use crate::{Case, next_length, rule};
-use trace::input::PART;
+use crate::{Case, next_length};
+use trace_input::sound::whole;
 
-// No input, or one that is cut.
-fn none() -> Case
-    ensures { result.more ≡ false }
-{
-    Case {
-        more: false,
-        read: 0,
-        at: 0,
-    }
-}
-
-// One input of the pack: what it prints is written.
-fn case(input: &mut [u8], out: &mut [u8]) -> Case
+// One input of the pack: what it prints is written, and the line behind it. None where there is no input, where it is cut, or where nothing can
+// be written.
+fn case(input: &mut [u8], out: &mut [u8]) -> Option<Case>
     requires { PartBuffers input.old out.old }
-    ensures { Told input.new out.new result }
+    ensures { IfSome result (Told input.new out.new) }
 {
-    let n = next_length();
-    if n == PART {
-        return none();
+    let read = next_length()?;
+    if io::read_full(0, &mut input[..read]) < read {
+        return None;
     }
-    let got = io::read_full(0, &mut input[..n]);
-    if got < n {
-        return none();
+    let at = whole(&input[..read], out);
+    if io::write_all(1, &out[..at]) && io::write_all(1, b"--\n") {
+        return Some(Case { read, at });
     }
-    let at = trace_input::sound::whole(&input[..n], out);
-    let written = io::write_all(1, &out[..at]);
-    Case {
-        more: rule(written),
-        read: n,
-        at: at,
-    }
+    None
 }
 
-// All inputs. What a read gives is not known, so the loop counts its turns down, from a number that no run uses up.
+// All inputs. What a read gives is not known, so the turns are counted, up to a number that no run comes to.
 pub fn run(input: &mut [u8], out: &mut [u8])
     requires { PartBuffers input.old out.old }
 {
-    let mut turns: u64 = u64::MAX;
-    let mut more = true;
-    while turns > 0 && more {
-        let done = case(input, out);
-        more = done.more;
-        turns -= 1;
+    for _ in 0..u64::MAX {
+        if case(input, out).is_none() {
+            break;
+        }
     }
 }

@@ -3,23 +3,22 @@
 use mathlib.Core.Path.{◌≡◌, refl, sym, ap, ◌∙◌, subst}
 use mathlib.Core.List.{List, [], ◌∷◌, map}
 use Prim.Native.Nat.{ℕ}
+use Rattle.std.proofs.Common.{Ok}
 use native.Mathlib.Omega.{arith}
 use lib.ListN.{length}
 use Rattle.ledger.specs.Ledger.{Entry, Level, tag, items, NonEmpty, Rising}
-use Rattle.ledger.specs.Buckets.{Reply, done}
+use Rattle.ledger.specs.Buckets.{Reply}
 use Rattle.ledger.specs.Cache.{Cache, new_cache, Insertion, fresh, fresh_out, old, full, Lookup, hit, miss, Least, least, nothing, insert_reply, lookup_reply, least_reply, cache_insert, cache_get, cache_peek, cache_remove, cache_reset, cache_peek_lfu, cache_evict}
 use Rattle.ledger.specs.History.{CacheCall, Insert, Get, Peek, Remove, Reset, PeekLfu, Evict, Clear, Len, inserted, got, peeked, removed, reset, peeked_lfu, evicted, does, log, after_all}
 use Rattle.ledger.specs.CacheCalls.{event_reply, cache_calls}
 use Rattle.ledger.proofs.Runs.{new_empty}
 use Rattle.ledger.proofs.FirstSentence.{first_sentence}
 use Rattle.ledger.proofs.SecondSentence.{second_sentence}
-use Rattle.ledger.proofs.Refusals.{done_refused}
 use Rattle.promise.specs.Promise.{ledger, By, DoesOn, Makes}
 use Rattle.promise.specs.Making.{Sizing, too_large, too_short, fitting, MadeBy}
 use Rattle.promise.proofs.Agree.{reads_one}
 use Rattle.buckets_tables.specs.declared.State.{State}
 use Rattle.buckets_tables.specs.Tables.{Sized}
-use Rattle.buckets_tables.specs.Lent as lent
 use Rattle.cache_tables.specs.Tables.{CacheTables, CacheHolds}
 use Rattle.cache_tables.specs.Lent.{cache}
 use Rattle.cache_tables.proofs.Cached.{cache_holds_one, guests_apart}
@@ -91,10 +90,10 @@ runs_as_ledger start calls replies t s w =
 
 -- Where demand 3 starts: tables that `new` has made, and any in which no key is bound
 
-new_holds : (n : ℕ) (t u : CacheTables) (s : State) (v : Sizing cache) → MadeBy cache lent.nothing (new_cache n) t (done []) u s v → CacheHolds u s (new_cache n)
-new_holds n t u s too_large m = done_refused [] _ m.answer
-new_holds n t u s too_short m = done_refused [] _ m.answer
-new_holds n t u s fitting m = m.1
+new_holds : (n : ℕ) (t u : CacheTables) (s : State) (v : Sizing cache) → MadeBy cache (new_cache n) t (Ok s) u v → CacheHolds u s (new_cache n)
+new_holds n t u s too_large m = let made = m.0 in let z : ◌≡◌ {A = ℕ} 0 1 = cc in absurd (omega arith)
+new_holds n t u s too_short m = let made = m.0 in let z : ◌≡◌ {A = ℕ} 0 1 = cc in absurd (omega arith)
+new_holds n t u s fitting m = let made = m.1 in let z : m.0 ≡ s = cc in subst (λ (z : State). CacheHolds u z (new_cache n)) z m.2
 
 pub new_is_empty : NewIsEmpty
 new_is_empty n t u s m = (new_holds n t u s m.0 m.2, new_empty n)

@@ -1,6 +1,6 @@
 -- Demand 3 of the code: of any sequence of single calls, each made on the tables and the state that the one before left, and of what
 -- was answered. A call is made when its promise is kept; the promises are those of the public calls.
-use Rattle.std.specs.Prelude.{◌≡◌, cond, List, [], ◌∷◌, ◌++◌, map, ℕ, ◌≤◌, eqb, length}
+use Rattle.std.specs.Prelude.{◌≡◌, cond, List, [], ◌∷◌, ◌++◌, map, ℕ, ◌≤◌, eqb, length, Ok}
 use Rattle.lists.specs.Lists.{In}
 use Rattle.ledger.specs.Ledger.{Item, items, size}
 use Rattle.ledger.specs.Buckets.{Reply, done, refused}
@@ -11,7 +11,6 @@ use Rattle.ledger.specs.Demand3.{EmptyCache, CALLS, LeastGoes, OnlyInserts, Spar
 use Rattle.promise.specs.Promise.{Makes}
 use Rattle.promise.specs.Making.{Made}
 use Rattle.buckets_tables.specs.declared.State.{State}
-use Rattle.buckets_tables.specs.Lent as lent
 use Rattle.cache_tables.specs.Tables.{CacheTables, CacheHolds}
 use Rattle.cache_tables.specs.Lent.{cache}
 
@@ -84,7 +83,7 @@ RunsAsLedger = (start : Cache) (calls : List CacheCall) (replies : List Reply) (
 -- last guest has left.
 abbrev pub NewIsEmpty : Type 0
 NewIsEmpty =
-    (capacity : ℕ) (handed made : CacheTables) (state : State) → Made cache lent.nothing (new_cache capacity) capacity handed (done []) made state →
+    (capacity : ℕ) (handed made : CacheTables) (state : State) → Made cache (new_cache capacity) capacity handed (Ok state) made →
     CacheHolds made state (new_cache capacity) × EmptyCache (new_cache capacity)
 
 abbrev pub NobodyIsEmpty : Type 0

@@ -1,6 +1,6 @@
 -- Why the check is exact. What carries it: the walk sees the one chain there can be, and the slots in use are all the others exactly when the two counts make up the whole.
 use mathlib.Core.Path.{◌≡◌, sym, ap, ◌∙◌}
-use mathlib.Core.Logic.{◌≢◌, ◌↔◌}
+use mathlib.Core.Logic.{◌↔◌}
 use mathlib.Core.Bool.{true, false}
 use mathlib.Core.List.{List}
 use Prim.Native.Nat.{ℕ, ◌+◌, ◌≤◌, ◌<◌}
@@ -9,7 +9,7 @@ use lib.ListN.{length, get_or}
 use lib.Dec.{eqb}
 use borrow.Author.Tests.{eq-eqb, ne_eqb, eqb-true}
 use Rattle.numbers.specs.Marks.{LIMIT, NONE}
-use Rattle.lists.specs.Lists.{All, Without, final}
+use Rattle.lists.specs.Lists.{All, Without}
 use Rattle.lists.proofs.Members.{all_map}
 use Rattle.lists.proofs.Pigeonhole.{pigeon_others, pigeon_cover, count_le}
 use Rattle.links.specs.Chain.{Chain, cells}
@@ -41,12 +41,6 @@ module _ (t : List ℕ) (o : Order) (r : Reached) (w : Walks t o.first r) where
   -- the walk of a sound table ends, after all free slots
   ended : (free : List ℕ) → ArenaHolds t o free → (r.at ≡ NONE) × (free ≡ w.passed)
   ended free h = w.walked.whole free h.chain
-
-  pub not_ended : r.at ≢ NONE → ArenaSound t o → ⊥
-  not_ended d s = d (ended s.0 s.1).0
-
-  pub other_last : r.last ≢ o.last → ArenaSound t o → ⊥
-  other_last d s = d (sym (s.1.last ∙ ap (final NONE) (ended s.0 s.1).1 ∙ w.final_one))
 
   -- the two counts are small
   pub counts_fit : length t ≤ LIMIT → r.at ≡ NONE → used_in t + r.steps ≤ length t + length t

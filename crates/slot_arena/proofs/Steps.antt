@@ -13,8 +13,8 @@ use Rattle.lists.proofs.Tests.{by_eq, if_less, if_not_less}
 use Rattle.lists.proofs.Members.{all_left, all_right, final_in, final_append, from_in, final_from, in_without}
 use Rattle.links.specs.Chain.{Chain, cells}
 use Rattle.links.proofs.Chains.{chain_set, chain_on}
+use Rattle.numbers.specs.declared.Slot.{Slot}
 use Rattle.slot_arena.specs.declared.Order.{Order}
-use Rattle.slot_arena.specs.declared.Taken.{Taken}
 use Rattle.slot_arena.specs.Arena.{USED, InUse, Filled, Takes, Releases, ArenaHolds}
 use Rattle.slot_arena.specs.Fill.{filled_cell}
 use Rattle.slot_arena.proofs.Free.{holds_distinct, holds_below, marked_without}
@@ -34,19 +34,19 @@ pub take_alone : (t : List ℕ) (o : Order) (s : ℕ) (rest : List ℕ) → Aren
 take_alone t o s [] h e = refl
 take_alone t o s (x ∷ rest) h e = absurd (omega (arith, h.limit, h.chain.2.0, h.chain.2.1, ap (cells t) h.chain.0))
 
-pub taken : (t : List ℕ) (o : Order) (r : Taken) → r.slot.0 ≡ o.first → r.order.first ≡ get_or t o.first 0
-    → ((s : ℕ) (rest : List ℕ) → ArenaHolds t o (s ∷ rest) → r.order.last ≡ final NONE rest) → Takes t o (set t o.first USED) r
-taken t o r slot first last = record {
+pub taken : (t : List ℕ) (o : Order) (x : Slot) (o' : Order) → x.0 ≡ o.first → o'.first ≡ get_or t o.first 0
+    → ((s : ℕ) (rest : List ℕ) → ArenaHolds t o (s ∷ rest) → o'.last ≡ final NONE rest) → Takes t o (set t o.first USED) x o'
+taken t o x o' slot first last = record {
   size = length-set t o.first USED;
   slot = slot;
-  holds = λ s rest h. subst (λ (k : ℕ). ArenaHolds (set t k USED) r.order rest) (sym h.chain.0) (holds s rest h);
+  holds = λ s rest h. subst (λ (k : ℕ). ArenaHolds (set t k USED) o' rest) (sym h.chain.0) (holds s rest h);
 }
   where
-    holds : (s : ℕ) (rest : List ℕ) → ArenaHolds t o (s ∷ rest) → ArenaHolds (set t s USED) r.order rest
+    holds : (s : ℕ) (rest : List ℕ) → ArenaHolds t o (s ∷ rest) → ArenaHolds (set t s USED) o' rest
     holds s rest h = record {
       limit = simp length-set h.limit;
       chain =
-          chain_set_sized t s USED r.order.first rest (holds_distinct t o (s ∷ rest) h).0
+          chain_set_sized t s USED o'.first rest (holds_distinct t o (s ∷ rest) h).0
           (subst (λ (k : ℕ). Chain (length t) (cells t) k rest) (sym (first ∙ ap (cells t) h.chain.0)) h.chain.2);
       last = last s rest h;
       others = λ k l w.

@@ -10,8 +10,8 @@ use Rattle.lists.proofs.Tests.{by_eq}
 use Rattle.lists.proofs.Members.{all_map, all_both, all_append, all_in, all_mid, all_put, length_from, times_in, without_times}
 use Rattle.lists.proofs.Totals.{length_total, total_add, total_ones, total_tight}
 use Rattle.lists.proofs.Pigeonhole.{distinct_times}
+use Rattle.numbers.specs.declared.Slot.{Slot}
 use Rattle.slot_arena.specs.declared.Order.{Order}
-use Rattle.slot_arena.specs.declared.Taken.{Taken}
 use Rattle.slot_arena.specs.Arena.{InUse, Uses, Filled, Takes, Releases, ArenaHolds}
 use Rattle.slot_arena.proofs.Free.{holds_one, holds_distinct, holds_below, first_slot, marked_without, in_use_exact}
 
@@ -71,26 +71,26 @@ uses_free t o rs u l = go u.sound.0 u.sound.1 u.many
     go (s ∷ free) h e = (first_slot t o s free h).1
 
 -- the slot that is handed out was not in use, and is in use after, beside those that were
-pub uses_take : (t : List ℕ) (o : Order) (t' : List ℕ) (r : Taken) (us vs : List ℕ) → Takes t o t' r → Uses t o (us ++ vs) → length (us ++ vs) < length t
-    → Uses t' r.order (us ++ r.slot.0 ∷ vs) × Without r.slot.0 (us ++ vs)
-uses_take t o t' r us vs k u l = go u.sound.0 u.sound.1 u.many
+pub uses_take : (t : List ℕ) (o : Order) (t' : List ℕ) (q : Slot) (o' : Order) (us vs : List ℕ) → Takes t o t' q o' → Uses t o (us ++ vs) → length (us ++ vs) < length t
+    → Uses t' o' (us ++ q.0 ∷ vs) × Without q.0 (us ++ vs)
+uses_take t o t' q o' us vs k u l = go u.sound.0 u.sound.1 u.many
   where
-    go : (free : List ℕ) → ArenaHolds t o free → length free + length (us ++ vs) ≡ length t → Uses t' r.order (us ++ r.slot.0 ∷ vs) × Without r.slot.0 (us ++ vs)
+    go : (free : List ℕ) → ArenaHolds t o free → length free + length (us ++ vs) ≡ length t → Uses t' o' (us ++ q.0 ∷ vs) × Without q.0 (us ++ vs)
     go [] h e = absurd (omega arith)
     go (x ∷ rest) h e =
         let h' = k.holds x rest h in
-        let same : x ≡ r.slot.0 = sym (k.slot ∙ h.chain.0) in
+        let same : x ≡ q.0 = sym (k.slot ∙ h.chain.0) in
         let still : (y : ℕ) → InUse t y → InUse t' y =
-        λ y m. (in_use_exact t' r.order rest h' y).1 (omega (arith, k.size, m.0), (marked_without t o (x ∷ rest) h y m.1).1) in
-        let fresh : Without r.slot.0 (us ++ vs) =
-        all_map (InUse t) (λ y. y ≢ r.slot.0) (λ y m q. (marked_without t o (x ∷ rest) h y m.1).0 (same ∙ sym q)) (us ++ vs) u.marks in
-        let new : InUse t' r.slot.0 =
-        (in_use_exact t' r.order rest h' r.slot.0).1
+        λ y m. (in_use_exact t' o' rest h' y).1 (omega (arith, k.size, m.0), (marked_without t o (x ∷ rest) h y m.1).1) in
+        let fresh : Without q.0 (us ++ vs) =
+        all_map (InUse t) (λ y. y ≢ q.0) (λ y m q. (marked_without t o (x ∷ rest) h y m.1).0 (same ∙ sym q)) (us ++ vs) u.marks in
+        let new : InUse t' q.0 =
+        (in_use_exact t' o' rest h' q.0).1
         (omega (arith, k.size, h.chain.1), subst (λ (z : ℕ). Without z rest) same (holds_distinct t o (x ∷ rest) h).0) in (
           record {
             sound = (rest, h');
-            many = omega (arith, length-append us vs, length-append us (r.slot.0 ∷ vs), k.size);
-            marks = all_put (InUse t') us r.slot.0 vs new (all_map (InUse t) (InUse t') still (us ++ vs) u.marks);
+            many = omega (arith, length-append us vs, length-append us (q.0 ∷ vs), k.size);
+            marks = all_put (InUse t') us q.0 vs new (all_map (InUse t) (InUse t') still (us ++ vs) u.marks);
           },
           fresh,
         )

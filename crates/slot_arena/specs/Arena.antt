@@ -1,10 +1,10 @@
 -- What a table of slots stands for, and what each call does to it. `arena[s]` is the free slot after s, NONE at the last one, USED at a slot in use.
 use Rattle.std.specs.Prelude.{◌≡◌, List, [], ◌∷◌, ◌++◌, ℕ, ◌+◌, ◌≤◌, ◌<◌, length, get_or}
 use Rattle.numbers.specs.Marks.{LIMIT, NONE}
+use Rattle.numbers.specs.declared.Slot.{Slot}
 use Rattle.lists.specs.Lists.{All, Without, final, from}
 use Rattle.links.specs.Chain.{Chain, cells}
 use Rattle.slot_arena.specs.declared.Order.{Order}
-use Rattle.slot_arena.specs.declared.Taken.{Taken}
 
 -- the mark of a slot in use
 abbrev pub USED : ℕ
@@ -37,10 +37,10 @@ pub record Filled (t t' : List ℕ) (o : Order) : Type 0 where
   pub holds : ArenaHolds t' o (from 0 (length t))
 
 -- `take`: the first free slot is handed out, the others stay free in their order
-pub record Takes (t : List ℕ) (o : Order) (t' : List ℕ) (r : Taken) : Type 0 where
+pub record Takes (t : List ℕ) (o : Order) (t' : List ℕ) (x : Slot) (o' : Order) : Type 0 where
   pub size : length t' ≡ length t
-  pub slot : r.slot.0 ≡ o.first
-  pub holds : (s : ℕ) (rest : List ℕ) → ArenaHolds t o (s ∷ rest) → ArenaHolds t' r.order rest
+  pub slot : x.0 ≡ o.first
+  pub holds : (s : ℕ) (rest : List ℕ) → ArenaHolds t o (s ∷ rest) → ArenaHolds t' o' rest
 
 -- `release`: a slot in use becomes the last free one
 pub record Releases (t : List ℕ) (o : Order) (s : ℕ) (t' : List ℕ) (o' : Order) : Type 0 where

@@ -20,13 +20,6 @@ pub struct Order {
     pub last: u64,
 }
 
-// A slot that was handed out, and the free order after it.
-#[derive(Clone, Copy)]
-pub struct Taken {
-    pub slot: Slot,
-    pub order: Order,
-}
-
 // How far the free order was followed: where the walk stopped, after how many slots, and the last of them.
 #[derive(Clone, Copy)]
 struct Reached {
@@ -40,10 +33,7 @@ pub fn in_use(arena: &[u64], slot: Slot) -> bool
     ensures { (result ≡ true) ↔ InUse arena.now slot.0 }
 {
     let s = slot.0 as usize;
-    if s < arena.len() {
-        return arena[s] == USED;
-    }
-    false
+    s < arena.len() && arena[s] == USED
 }
 
 // Whether the table and the order are those of some free slots, with all others in use.
@@ -55,14 +45,7 @@ pub fn is_sound(arena: &[u64], order: Order) -> bool
         return false;
     }
     let w = walk(arena, order.first);
-    if w.at != NONE {
-        return false;
-    }
-    if w.last != order.last {
-        return false;
-    }
-    let used = count_used(arena);
-    used + w.steps == capacity
+    w.at == NONE && w.last == order.last && count_used(arena) + w.steps == capacity
 }
 
 // Follows the links from `first`, for at most as many steps as there are slots.
@@ -70,33 +53,22 @@ fn walk(arena: &[u64], first: u64) -> Reached
     requires { length arena.now ≤ LIMIT }
     ensures { Walks arena.now first result }
 {
-    let capacity = arena.len();
-    let mut at = first as usize;
-    let mut steps: usize = 0;
-    let mut last = NONE as usize;
+    let capacity = arena.len() as u64;
+    let mut at = first;
+    let mut steps = 0;
+    let mut last = NONE;
+    // A `while`, since it follows links: no range and no iterator has the places.
     while at < capacity && steps < capacity {
         last = at;
-        at = arena[at] as usize;
+        at = arena[at as usize];
         steps += 1;
     }
-    Reached {
-        at: at as u64,
-        steps: steps as u64,
-        last: last as u64,
-    }
+    Reached { at, steps, last }
 }
 
 // How many slots are in use.
 pub fn count_used(arena: &[u64]) -> u64
     ensures { result ≡ used_in arena.now }
 {
-    let mut n: u64 = 0;
-    let mut i: usize = 0;
-    while i < arena.len() {
-        if arena[i] == USED {
-            n += 1;
-        }
-        i += 1;
-    }
-    n
+    arena.iter().filter(|link| **link == USED).count() as u64
 }

@@ -4,7 +4,7 @@ ghost use Rattle.numbers.specs.Marks.{LIMIT};
 ghost use Rattle.slot_arena.specs.Arena.{Filled, Takes, Releases};
 ghost use Rattle.slot_arena.specs.Fill.{filled_cell};
 
-use crate::{Order, Taken, USED};
+use crate::{Order, USED};
 use numbers::{NONE, Slot};
 
 // All slots are free in ascending order. Linear in the table's length.
@@ -13,20 +13,18 @@ pub fn fill(arena: &mut [u64]) -> Order
     ensures { Filled arena.old arena.new result }
 {
     let capacity = arena.len() as u64;
-    let mut i: usize = 0;
-    while i < arena.len() {
-        arena[i] = filled_cell(capacity, i as u64);
-        i += 1;
+    for (i, link) in arena.iter_mut().enumerate() {
+        *link = filled_cell(capacity, i as u64);
     }
-    if 0 < capacity {
+    if capacity == 0 {
         return Order {
-            first: 0,
-            last: capacity - 1,
+            first: NONE,
+            last: NONE,
         };
     }
     Order {
-        first: NONE,
-        last: NONE,
+        first: 0,
+        last: capacity - 1,
     }
 }
 
@@ -35,55 +33,38 @@ fn filled_cell(capacity: u64, i: u64) -> u64
     requires { i < capacity }
     ensures { result ≡ filled_cell capacity i }
 {
-    if i + 1 < capacity {
-        return i + 1;
-    }
-    NONE
+    if i + 1 < capacity { i + 1 } else { NONE }
 }
 
 // Hands out the first free slot.
-pub fn take(arena: &mut [u64], order: Order) -> Taken
-    requires { order.first < length arena.old }
-    ensures { Takes arena.old order arena.new result }
+pub fn take(arena: &mut [u64], order: &mut Order) -> Slot
+    requires { order.old.first < length arena.old }
+    ensures { Takes arena.old order.old arena.new result order.new }
 {
-    let s = order.first as usize;
+    let slot = Slot(order.first);
+    let s = slot.0 as usize;
     let next = arena[s];
     arena[s] = USED;
+    order.first = next;
     if next == NONE {
-        return Taken {
-            slot: Slot(order.first),
-            order: Order {
-                first: NONE,
-                last: NONE,
-            },
-        };
+        order.last = NONE;
     }
-    Taken {
-        slot: Slot(order.first),
-        order: Order {
-            first: next,
-            last: order.last,
-        },
-    }
+    slot
 }
 
 // Takes a slot back: it is linked behind the last free one, and is the last to be handed out again.
-pub fn release(arena: &mut [u64], order: Order, slot: Slot) -> Order
+pub fn release(arena: &mut [u64], order: &mut Order, slot: Slot)
     requires { slot.0 < length arena.old }
-    ensures { Releases arena.old order slot.0 arena.new result }
+    ensures { Releases arena.old order.old slot.0 arena.new order.new }
 {
     let s = slot.0 as usize;
     arena[s] = NONE;
     let last = order.last as usize;
     if last < arena.len() {
         arena[last] = slot.0;
-        return Order {
-            first: order.first,
-            last: slot.0,
-        };
+        order.last = slot.0;
+        return;
     }
-    Order {
-        first: slot.0,
-        last: slot.0,
-    }
+    order.first = slot.0;
+    order.last = slot.0;
 }

@@ -7,10 +7,10 @@ use native.Mathlib.Omega.{arith}
 use borrow.Author.Tests.{lt-ltb, le-ltb}
 use lib.ListN.{length, get_or, drop, length-append}
 use lib.Seq.{take-append-le, drop_at}
+use Rattle.std.proofs.Common.{Result, Ok, Err}
 use Rattle.lists.proofs.Tests.{by_lt}
+use Rattle.trace.specs.declared.Word.{Word}
 use Rattle.trace.specs.declared.Word.TheVariants as word
-use Rattle.trace.specs.declared.Header.{Header}
-use Rattle.trace.specs.declared.Header.TheVariants.{Stops, Begins}
 use Rattle.trace.specs.Output.{little, SLOTS, HEADER, capacity_of, header_of, begun, output}
 
 -- The code's tests
@@ -21,22 +21,22 @@ two_first (b ∷ []) h = absurd (omega arith)
 two_first (a ∷ (b ∷ bs)) h = refl
 
 module _ (bs : List ℕ) where
-  pub header_cut : length bs < HEADER → Stops word.Cut ≡ header_of bs
+  pub header_cut : length bs < HEADER → Err word.Cut ≡ header_of bs
   unfolding header_of
   header_cut few = rw (lt-ltb (length bs) HEADER few)
 
   module _ (capacity : ℕ) (enough : HEADER ≤ length bs) (is : capacity ≡ little (get_or bs 0 0 ∷ (get_or bs 1 0 ∷ []))) where
-    pub header_large : SLOTS < capacity → Stops word.Capacity ≡ header_of bs
+    pub header_large : SLOTS < capacity → Err word.Capacity ≡ header_of bs
     unfolding header_of
     header_large large = rw (le-ltb (length bs) HEADER enough, two_first bs enough, sym is, lt-ltb SLOTS capacity large)
 
-    pub header_begins : capacity ≤ SLOTS → Begins capacity ≡ header_of bs
+    pub header_begins : capacity ≤ SLOTS → Ok capacity ≡ header_of bs
     unfolding header_of
     header_begins fits = rw (le-ltb (length bs) HEADER enough, two_first bs enough, sym is, le-ltb SLOTS capacity fits)
 
 -- What a header that begins has
 
-pub begins_fits : (bs : List ℕ) (capacity : ℕ) → header_of bs ≡ Begins capacity → (HEADER ≤ length bs) × (capacity ≤ SLOTS)
+pub begins_fits : (bs : List ℕ) (capacity : ℕ) → header_of bs ≡ Ok capacity → (HEADER ≤ length bs) × (capacity ≤ SLOTS)
 begins_fits bs capacity e =
     by_lt (length bs) HEADER
     (λ few. let cut = header_cut bs few in let z : ◌≡◌ {A = ℕ} 0 1 = cc in absurd (omega arith))
@@ -48,7 +48,7 @@ begins_fits bs capacity e =
 
 -- The whole output
 
-pub output_begun : (bs : List ℕ) (h : Header) → h ≡ header_of bs → output bs ≡ begun h (drop HEADER bs)
+pub output_begun : (bs : List ℕ) (h : Result ℕ Word) → h ≡ header_of bs → output bs ≡ begun h (drop HEADER bs)
 unfolding output
 output_begun bs h e = rw e
 
@@ -61,5 +61,5 @@ module _ (first rest : List ℕ) (all : length first ≡ HEADER) where
       let more : HEADER ≤ length (first ++ rest) = simp length-append (omega arith) in
       rw (le-ltb (length (first ++ rest)) HEADER more, le-ltb (length first) HEADER inside, take-append-le)
 
-  pub output_first : (h : Header) → h ≡ header_of first → output (first ++ rest) ≡ begun h rest
+  pub output_first : (h : Result ℕ Word) → h ≡ header_of first → output (first ++ rest) ≡ begun h rest
   output_first h e = output_begun (first ++ rest) h (e ∙ sym header_first) ∙ ap (begun h) (drop_at first rest HEADER all)

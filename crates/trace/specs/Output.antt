@@ -1,10 +1,9 @@
 -- What the trace program prints for a whole input. The input is read byte by byte; each seventeenth byte after the header ends a record,
 -- whose line is then printed. So an input that is read in parts prints what it prints as a whole (`runs_on` of proofs/Running.antt).
-use Rattle.std.specs.Prelude.{cond, List, [], ◌∷◌, ◌++◌, ℕ, ◌+◌, ◌*◌, eqb, ltb, length, take, drop, get_or}
+use Rattle.std.specs.Prelude.{cond, List, [], ◌∷◌, ◌++◌, ℕ, ◌+◌, ◌*◌, eqb, ltb, length, take, drop, get_or, Result, Ok, Err}
 use Rattle.ledger.specs.Cache.{Cache, new_cache}
 use Rattle.ledger.specs.History.{Len}
-use Rattle.trace.specs.declared.Header.{Header}
-use Rattle.trace.specs.declared.Header.TheVariants.{Stops, Begins}
+use Rattle.trace.specs.declared.Word.{Word}
 use Rattle.trace.specs.declared.Word.TheVariants as word
 use Rattle.trace.specs.declared.Line.TheVariants.{Plain}
 use Rattle.trace.specs.Lines.{text, tells, step}
@@ -76,16 +75,16 @@ abbrev pub capacity_of : List ℕ → ℕ
 capacity_of bs = little (take 2 bs)
 
 -- what the first bytes come to: `CUT` where there are too few, `CAPACITY` where the tables have too few places, else the capacity
-unfoldable pub header_of : List ℕ → Header
+unfoldable pub header_of : List ℕ → Result ℕ Word
 header_of bs =
-    cond (ltb (length bs) HEADER) (Stops word.Cut)
-    (cond (ltb SLOTS (capacity_of bs)) (Stops word.Capacity)
-    (Begins (capacity_of bs)))
+    cond (ltb (length bs) HEADER) (Err word.Cut)
+    (cond (ltb SLOTS (capacity_of bs)) (Err word.Capacity)
+    (Ok (capacity_of bs)))
 
 -- the whole output: that word alone, or the lines of the records and the last line
-abbrev pub begun : Header → (records : List ℕ) → List ℕ
-begun (Stops w) bs = text (Plain w)
-begun (Begins capacity) bs = finished (runs (run [] (new_cache capacity) []) bs)
+abbrev pub begun : Result ℕ Word → (records : List ℕ) → List ℕ
+begun (Err w) bs = text (Plain w)
+begun (Ok capacity) bs = finished (runs (run [] (new_cache capacity) []) bs)
 
 unfoldable pub output : List ℕ → List ℕ
 output bs = begun (header_of bs) (drop HEADER bs)

@@ -3,7 +3,7 @@ ghost use Rattle.std.specs.Prelude.{◌≡◌, [], ◌∷◌, ◌<◌};
 ghost use Rattle.trace.specs.Output.{little, header_of};
 ghost use Rattle.trace.specs.Ends.{last_of, goes_on};
 
-use crate::{Header, Line, Word};
+use crate::{Line, Word};
 
 // How many bytes stand before the records.
 pub const HEADER: usize = 2;
@@ -28,18 +28,19 @@ pub fn two_bytes(low: u8, high: u8) -> usize
     wide(low) + 256 * wide(high)
 }
 
-// The first bytes of an input, or all of them: nothing about them is decided anywhere else.
-pub fn header(first: &[u8]) -> Header
+// The first bytes of an input, or all of them: the capacity that the records begin with, or a word that is printed as the only line. Nothing
+// about them is decided anywhere else.
+pub fn header(first: &[u8]) -> Result<usize, Word>
     ensures { result ≡ header_of first.now }
 {
     if first.len() < HEADER {
-        return Header::Stops(Word::Cut);
+        return Err(Word::Cut);
     }
     let capacity = two_bytes(first[0], first[1]);
     if capacity > 256 {
-        return Header::Stops(Word::Capacity);
+        return Err(Word::Capacity);
     }
-    Header::Begins(capacity)
+    Ok(capacity)
 }
 
 // The line at the end of the input: inside a record, or at a record's end, where it counts the bound keys.
@@ -56,8 +57,5 @@ pub fn last_line(left: usize, count: u64) -> Line
 pub fn goes_on(written: bool, n: usize) -> bool
     ensures { result ≡ goes_on written n }
 {
-    if written {
-        return n == PART;
-    }
-    false
+    written && n == PART
 }

@@ -1,5 +1,5 @@
-// The trace format: the words and the lines that a record of a trace prints, and what an input begins with. How an input begins and ends
-// stands in `input`, writing a line into a buffer in `sound`.
+// The trace format: the words and the lines that a record of a trace prints. How an input begins and ends stands in `input`, writing a line
+// into a buffer in `sound`.
 #![tactic(auto)]
 
 pub mod input;
@@ -33,11 +33,4 @@ pub enum Line {
     Plain(Word),
     One(Word, u64),
     Two(Word, u64, u64),
-}
-
-// What the first bytes of an input come to: a word that is printed as the only line, or the capacity that the records begin with.
-#[derive(Clone, Copy)]
-pub enum Header {
-    Stops(Word),
-    Begins(usize),
 }

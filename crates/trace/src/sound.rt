@@ -12,12 +12,9 @@ pub fn put(out: &mut [u8], at: usize, bytes: &[u8]) -> usize
     requires { at + length bytes.now ≤ length out.old }
     ensures { Writes out.old at bytes.now out.new result }
 {
-    let mut j = 0;
-    while j < bytes.len() {
-        out[at + j] = bytes[j];
-        j += 1;
-    }
-    at + bytes.len()
+    let end = at + bytes.len();
+    out[at..end].copy_from_slice(bytes);
+    end
 }
 
 // A word.
@@ -51,6 +48,7 @@ pub fn number(out: &mut [u8], at: usize, n: u64) -> usize
     requires { at + DIGITS ≤ length out.old }
     ensures { Spells out.old at (decimal n) DIGITS out.new result }
 {
+    // An array and a length: there is no heap.
     let mut digits = [0u8; 20];
     let k = io::decimal(n, &mut digits);
     put(out, at, &digits[..k])

@@ -9,7 +9,6 @@ use Rattle.ledger.specs.Cache.{Cache}
 use Rattle.buckets_tables.specs.declared.State.{State}
 use Rattle.cache_tables.specs.Tables.{CacheTables, CacheHolds}
 use Rattle.trace_record.proofs.Agreeing.{TraceAgree, hold_same}
-use Rattle.trace_input.specs.declared.Printed.{Printed}
 use Rattle.trace_input.specs.Feeding.{part_run}
 use Rattle.trace_input.specs.Parts.{Parts, InputShows}
 
@@ -22,14 +21,14 @@ module _ (out₁ out₂ : List ℕ) (r₁ r₂ : ℕ) where
   whole_agree bytes a b = let same = a.printed ∙ sym b.printed in (ends_agree a.room b.room same, same)
 
 pub parts_agree : (t : CacheTables) (s : State) (input : List ℕ) (n : ℕ) (c : Cache) → CacheHolds t s c →
-    (t₁ t₂ : CacheTables) (out₁ out₂ : List ℕ) (r₁ r₂ : Printed) → Parts t s input n t₁ out₁ r₁ → Parts t s input n t₂ out₂ r₂ →
-    TraceAgree out₁ r₁.at t₁ r₁.state out₂ r₂.at t₂ r₂.state
-parts_agree t s input n c h t₁ t₂ out₁ out₂ r₁ r₂ a b =
+    (t₁ t₂ : CacheTables) (s₁ s₂ : State) (out₁ out₂ : List ℕ) (r₁ r₂ : ℕ) → Parts t s input n t₁ s₁ out₁ r₁ → Parts t s input n t₂ s₂ out₂ r₂ →
+    TraceAgree out₁ r₁ t₁ s₁ out₂ r₂ t₂ s₂
+parts_agree t s input n c h t₁ t₂ s₁ s₂ out₁ out₂ r₁ r₂ a b =
     let x = a.prints c h in
     let y = b.prints c h in
     let same = x.printed ∙ sym y.printed in
     record {
-      ends = ends_agree out₁ out₂ r₁.at r₂.at a.room b.room same;
+      ends = ends_agree out₁ out₂ r₁ r₂ a.room b.room same;
       printed = same;
-      same = hold_same t₁ t₂ r₁.state r₂.state (part_run c (take n input)).cache x.holds y.holds;
+      same = hold_same t₁ t₂ s₁ s₂ (part_run c (take n input)).cache x.holds y.holds;
     }

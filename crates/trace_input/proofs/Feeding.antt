@@ -10,53 +10,12 @@ use Rattle.promise.specs.Promise.{Sound}
 use Rattle.buckets_tables.specs.declared.State.{State}
 use Rattle.cache_tables.specs.Tables.{CacheTables, CacheHolds}
 use Rattle.cache_tables.specs.Lent.{cache}
-use Rattle.trace.specs.Lines.{text, step, LONGEST}
+use Rattle.trace.specs.Lines.{text, step}
 use Rattle.trace.specs.Output.{Run, run, RECORD, little, ended, runs}
 use Rattle.trace.proofs.Running.{runs_on, record_runs}
 use Rattle.trace_record.specs.Steps.{RecordPrints}
 use Rattle.trace_input.specs.Feeding.{PRINT, record_at, part, FedBy, Feeds}
 use Rattle.trace_input.proofs.Records.{code_read, key_read, value_read}
-
--- two bundles of tables have the same lengths
-pub record SameSizes (t t' : CacheTables) : Type 0 where
-  pub keys : length t'.base.keys ≡ length t.base.keys
-  pub freqs : length t'.base.freqs ≡ length t.base.freqs
-  pub epochs : length t'.base.epochs ≡ length t.base.epochs
-  pub prevs : length t'.base.prevs ≡ length t.base.prevs
-  pub nexts : length t'.base.nexts ≡ length t.base.nexts
-  pub arena : length t'.base.arena ≡ length t.base.arena
-  pub index : length t'.base.index ≡ length t.base.index
-  pub buckets : length t'.base.buckets ≡ length t.base.buckets
-  pub spares : length t'.base.spares ≡ length t.base.spares
-  pub values : length t'.values ≡ length t.values
-
-pub sizes_then : (t t' t'' : CacheTables) → SameSizes t t' → SameSizes t' t'' → SameSizes t t''
-sizes_then t t' t'' p q = record {
-  keys = q.keys ∙ p.keys;
-  freqs = q.freqs ∙ p.freqs;
-  epochs = q.epochs ∙ p.epochs;
-  prevs = q.prevs ∙ p.prevs;
-  nexts = q.nexts ∙ p.nexts;
-  arena = q.arena ∙ p.arena;
-  index = q.index ∙ p.index;
-  buckets = q.buckets ∙ p.buckets;
-  spares = q.spares ∙ p.spares;
-  values = q.values ∙ p.values;
-}
-
-pub sizes_same : (t : CacheTables) → SameSizes t t
-sizes_same t = record {
-  keys = refl;
-  freqs = refl;
-  epochs = refl;
-  prevs = refl;
-  nexts = refl;
-  arena = refl;
-  index = refl;
-  buckets = refl;
-  spares = refl;
-  values = refl;
-}
 
 -- One more record of the input
 
@@ -80,43 +39,26 @@ module _ (c : Cache) (input : List ℕ) (next : ℕ) (inside : next + RECORD ≤
 
 -- The loop
 
-pub record Feeding (t : CacheTables) (s : State) (input : List ℕ) (n : ℕ) (out₀ : List ℕ) (t' : CacheTables) (s' : State) (out : List ℕ) (at next : ℕ) : Type 0 where
+pub record Feeding (t : CacheTables) (s : State) (input : List ℕ) (n : ℕ) (t' : CacheTables) (s' : State) (out : List ℕ) (at next : ℕ) : Type 0 where
   pub begun : next ≤ n
-  pub sizes : SameSizes t t'
-  pub long : length out ≡ length out₀
   pub room : at ≤ next * PRINT
-  pub fed : (c : Cache) → CacheHolds t s c → FedBy c input t' out (record { at = at; next = next; state = s' })
+  pub fed : (c : Cache) → CacheHolds t s c → FedBy c input t' s' out (record { at = at; next = next })
 
-module _ (t : CacheTables) (s : State) (input : List ℕ) (n : ℕ) (out₀ : List ℕ) where
-  pub feeding_start : Feeding t s input n out₀ t s out₀ 0 0
+module _ (t : CacheTables) (s : State) (input : List ℕ) (n : ℕ) where
+  pub feeding_start : (out : List ℕ) → Feeding t s input n t s out 0 0
   unfolding runs
-  feeding_start = record {
+  feeding_start out = record {
     begun = omega arith;
-    sizes = sizes_same t;
-    long = refl;
     room = omega arith;
     fed = λ c h. record { printed = refl; whole = refl; holds = h };
   }
 
-  module _ (t' : CacheTables) (s' : State) (out : List ℕ) (at next : ℕ) (so_far : Feeding t s input n out₀ t' s' out at next) where
-    pub feeding_sound : Sound cache t s → Sound cache t' s'
-    feeding_sound w = ((part w.0 input next).cache, (so_far.fed w.0 w.1).holds)
-
-    -- there is room for one more line
-    pub feeding_room : n * PRINT ≤ length out₀ → next + RECORD ≤ n → at + LONGEST ≤ length out
-    feeding_room fits more =
-        let room = so_far.room in
-        let long = so_far.long in
-        omega arith
-
+  module _ (t' : CacheTables) (s' : State) (out : List ℕ) (at next : ℕ) (so_far : Feeding t s input n t' s' out at next) where
     pub feeding_more : Sound cache t s → next + RECORD ≤ n → n ≤ length input → (code key value : ℕ) → code ≡ get_or input next 0 → key ≡ little (take 8 (drop (next + 1) input)) →
         value ≡ little (take 8 (drop (next + 9) input)) → (t'' : CacheTables) (s'' : State) (out' : List ℕ) (r : ℕ) →
-        RecordPrints (step code key value) t' s' out at t'' s'' out' r → SameSizes t' t'' → length out' ≡ length out →
-        Feeding t s input n out₀ t'' s'' out' r (next + RECORD)
-    feeding_more w more inside code key value e₁ e₂ e₃ t'' s'' out' r prints sizes long = record {
+        RecordPrints (step code key value) t' s' out at t'' s'' out' r → Feeding t s input n t'' s'' out' r (next + RECORD)
+    feeding_more w more inside code key value e₁ e₂ e₃ t'' s'' out' r prints = record {
       begun = more;
-      sizes = sizes_then t t' t'' so_far.sizes sizes;
-      long = long ∙ so_far.long;
       room =
           let room = so_far.room in
           let short = (prints (part w.0 input next).cache (so_far.fed w.0 w.1).holds).0.short in
@@ -132,7 +74,7 @@ module _ (t : CacheTables) (s : State) (input : List ℕ) (n : ℕ) (out₀ : Li
           };
     }
 
-    pub feeding_end : n < next + RECORD → Feeds t s input n t' out (record { at = at; next = next; state = s' })
+    pub feeding_end : n < next + RECORD → Feeds t s input n t' s' out (record { at = at; next = next })
     feeding_end less = record {
       begun = so_far.begun;
       left = less;

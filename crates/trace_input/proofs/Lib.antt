@@ -1,5 +1,4 @@
 pub mod Records
-pub mod Numbers
 pub mod Feeding
 pub mod Parts
 pub mod Sizes

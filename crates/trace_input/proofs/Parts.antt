@@ -13,8 +13,7 @@ use Rattle.ledger.specs.Cache.{Cache, new_cache, cache_len}
 use Rattle.ledger.specs.History.{does}
 use Rattle.buckets_tables.specs.declared.State.{State}
 use Rattle.cache_tables.specs.Tables.{CacheTables, CacheHolds}
-use Rattle.trace.specs.declared.Header.TheVariants.{Begins}
-use Rattle.trace.specs.declared.Line.{Line}
+use Rattle.std.proofs.Common.{Ok}
 use Rattle.trace.specs.Ends.{PART, last_of}
 use Rattle.trace.specs.Lines.{text, tells, step, LONGEST}
 use Rattle.trace.specs.Output.{Run, run, RECORD, code_of, key_of, value_of, ended, reads, runs, last_line, finished, HEADER, header_of, output}
@@ -90,18 +89,9 @@ parts_print c (p ∷ (q ∷ ps)) h =
     (sym (append_assoc out (part_run after rest).printed (last_line (part_run after rest).cache (part_run after rest).pending)))
 
 -- a header that begins, and then parts
-pub output_in_parts : (first : List ℕ) (ps : List (List ℕ)) (capacity : ℕ) → length first ≡ HEADER → header_of first ≡ Begins capacity → InParts ps →
+pub output_in_parts : (first : List ℕ) (ps : List (List ℕ)) (capacity : ℕ) → length first ≡ HEADER → header_of first ≡ Ok capacity → InParts ps →
     output (first ++ joined ps) ≡ printed_by (new_cache capacity) ps
-output_in_parts first ps capacity all begins h = output_first first (joined ps) all (Begins capacity) (sym begins) ∙ sym (parts_print (new_cache capacity) ps h)
-
--- The last line
-
-module _ (out : List ℕ) (at n left count : ℕ) where
-  pub closed : (line : Line) (out' : List ℕ) (r : ℕ) → n < PART → line ≡ last_of left count → Spells out at (text line) LONGEST out' r → Spells out at (closing n left count) LONGEST out' r
-  closed line out' r short e w = rw (lt-ltb n PART short, sym e) w
-
-  pub unclosed : PART ≤ n → Spells out at (closing n left count) LONGEST out at
-  unclosed full = rw (le-ltb n PART full) (record { writes = record { next = omega arith; written = sym (append-nil (take at out)) }; short = omega arith })
+output_in_parts first ps capacity all begins h = output_first first (joined ps) all (Ok capacity) (sym begins) ∙ sym (parts_print (new_cache capacity) ps h)
 
 -- One part: its whole records, and the bytes behind them
 
@@ -114,7 +104,7 @@ by_full : (b : Bool) (xs ys : List ℕ) → cond b (xs ++ ys) xs ≡ xs ++ cond 
 by_full true xs ys = refl
 by_full false xs ys = sym (append-nil xs)
 
-module _ (t : CacheTables) (s : State) (input : List ℕ) (n : ℕ) (inside : n ≤ length input) (t' : CacheTables) (out : List ℕ) (fed : Fed) (feeds : Feeds t s input n t' out fed) where
+module _ (t : CacheTables) (s : State) (input : List ℕ) (n : ℕ) (inside : n ≤ length input) (t' : CacheTables) (s' : State) (out : List ℕ) (fed : Fed) (feeds : Feeds t s input n t' s' out fed) where
   -- the bytes of a record that has not ended
   abbrev rest : List ℕ
   rest = take (n - fed.next) (drop fed.next input)
@@ -132,8 +122,8 @@ module _ (t : CacheTables) (s : State) (input : List ℕ) (n : ℕ) (inside : n 
       ∙ ap (λ (r : Run). runs r rest) pend
       ∙ few_runs done.printed done.cache [] rest (omega (arith, rest_size, feeds.left))
 
-  pub part_prints : (out' : List ℕ) (r : ℕ) → Spells out fed.at (closing n (n - fed.next) fed.state.count) LONGEST out' r → n * PRINT + LONGEST ≤ length out' →
-      Parts t s input n t' out' (record { at = r; state = fed.state })
+  pub part_prints : (out' : List ℕ) (r : ℕ) → Spells out fed.at (closing n (n - fed.next) s'.count) LONGEST out' r → n * PRINT + LONGEST ≤ length out' →
+      Parts t s input n t' s' out' r
   unfolding cache_len
   part_prints out' r closed fits = record {
     room = omega (arith, closed.short, feeds.room);
@@ -142,9 +132,9 @@ module _ (t : CacheTables) (s : State) (input : List ℕ) (n : ℕ) (inside : n 
         let done = part c input fed.next in
         let e = rest_run c f.whole in
         let size : length (take n input) ≡ n = length-take-le n input inside in
-        let last = last_is done.cache rest (n - fed.next) fed.state.count rest_size f.holds.table.count in
+        let last = last_is done.cache rest (n - fed.next) s'.count rest_size f.holds.table.count in
         record {
-          printed = closed.writes.written ∙ ap (λ (l : List ℕ). l ++ closing n (n - fed.next) fed.state.count) f.printed ∙ sym (rw (size, e, sym last) (by_full (ltb n PART) done.printed (text (last_of (n - fed.next) fed.state.count))));
-          holds = subst (λ (x : Run). CacheHolds t' fed.state x.cache) (sym e) f.holds;
+          printed = closed.writes.written ∙ ap (λ (l : List ℕ). l ++ closing n (n - fed.next) s'.count) f.printed ∙ sym (rw (size, e, sym last) (by_full (ltb n PART) done.printed (text (last_of (n - fed.next) s'.count))));
+          holds = subst (λ (x : Run). CacheHolds t' s' x.cache) (sym e) f.holds;
         };
   }

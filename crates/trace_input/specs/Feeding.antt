@@ -25,16 +25,16 @@ abbrev pub part : Cache → (input : List ℕ) → ℕ → Run
 part c input m = part_run c (take m input)
 
 -- the tables hold the cache after the whole records, which printed what stands in the buffer; less than a record is left
-pub record FedBy (c : Cache) (input : List ℕ) (t' : CacheTables) (out' : List ℕ) (r : Fed) : Type 0 where
+pub record FedBy (c : Cache) (input : List ℕ) (t' : CacheTables) (s' : State) (out' : List ℕ) (r : Fed) : Type 0 where
   pub printed : take r.at out' ≡ (part c input r.next).printed
   pub whole : (part c input r.next).pending ≡ []
-  pub holds : CacheHolds t' r.state (part c input r.next).cache
+  pub holds : CacheHolds t' s' (part c input r.next).cache
 
-pub record Feeds (t : CacheTables) (s : State) (input : List ℕ) (n : ℕ) (t' : CacheTables) (out' : List ℕ) (r : Fed) : Type 0 where
+pub record Feeds (t : CacheTables) (s : State) (input : List ℕ) (n : ℕ) (t' : CacheTables) (s' : State) (out' : List ℕ) (r : Fed) : Type 0 where
   pub begun : r.next ≤ n
   pub left : n < r.next + RECORD
   pub room : r.at ≤ n * PRINT
-  pub fed : (c : Cache) → CacheHolds t s c → FedBy c input t' out' r
+  pub fed : (c : Cache) → CacheHolds t s c → FedBy c input t' s' out' r
 
 -- the lengths that a capacity calls for
 pub record Sizes (t : CacheTables) (c : ℕ) : Type 0 where

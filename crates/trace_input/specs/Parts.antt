@@ -7,7 +7,6 @@ use Rattle.trace.specs.Ends.{PART, last_of}
 use Rattle.trace.specs.Lines.{text, LONGEST}
 use Rattle.trace.specs.Output.{finished}
 use Rattle.trace_input.specs.Feeding.{PRINT, part_run}
-use Rattle.trace_input.specs.declared.Printed.{Printed}
 
 -- what a part prints: its records, and the last line where it is the last part
 abbrev pub part_output : Cache → List ℕ → List ℕ
@@ -23,13 +22,13 @@ pub record PartBuffers (input out : List ℕ) : Type 0 where
   pub prints : PART * PRINT + LONGEST ≤ length out
 
 -- the buffer has what the part prints, and the tables hold the cache after it
-pub record PrintedBy (c : Cache) (bs : List ℕ) (t' : CacheTables) (out' : List ℕ) (r : Printed) : Type 0 where
-  pub printed : take r.at out' ≡ part_output c bs
-  pub holds : CacheHolds t' r.state (part_run c bs).cache
+pub record PrintedBy (c : Cache) (bs : List ℕ) (t' : CacheTables) (s' : State) (out' : List ℕ) (r : ℕ) : Type 0 where
+  pub printed : take r out' ≡ part_output c bs
+  pub holds : CacheHolds t' s' (part_run c bs).cache
 
-pub record Parts (t : CacheTables) (s : State) (input : List ℕ) (n : ℕ) (t' : CacheTables) (out' : List ℕ) (r : Printed) : Type 0 where
-  pub room : r.at ≤ length out'
-  pub prints : (c : Cache) → CacheHolds t s c → PrintedBy c (take n input) t' out' r
+pub record Parts (t : CacheTables) (s : State) (input : List ℕ) (n : ℕ) (t' : CacheTables) (s' : State) (out' : List ℕ) (r : ℕ) : Type 0 where
+  pub room : r ≤ length out'
+  pub prints : (c : Cache) → CacheHolds t s c → PrintedBy c (take n input) t' s' out' r
 
 -- a buffer that begins with some bytes, up to r
 pub record InputShows (bytes out' : List ℕ) (r : ℕ) : Type 0 where

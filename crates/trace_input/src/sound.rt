@@ -2,6 +2,7 @@
 // is written into a lent buffer.
 ghost use Rattle.std.specs.Prelude.{◌≡◌, ◌+◌, ◌*◌, ◌≤◌, length, take, drop};
 ghost use Rattle.promise.specs.Promise.{Sound};
+ghost use Rattle.buckets_tables.specs.Slices.{Same};
 ghost use Rattle.cache_tables.specs.Slices.{lent};
 ghost use Rattle.cache_tables.specs.Lent.{cache};
 ghost use Rattle.trace.specs.Lines.{LONGEST};
@@ -10,10 +11,13 @@ ghost use Rattle.trace.specs.Written.{Spells};
 ghost use Rattle.trace_input.specs.Feeding.{Feeds, PRINT};
 ghost use Rattle.trace_input.specs.Parts.{Parts, closing};
 
-use crate::{Fed, Printed};
-use buckets_tables::State;
+use crate::Fed;
+use buckets_tables::{Guests, State};
+use levels::Levels;
 use numbers::Key;
 use trace::input::{PART, RECORD, last_line};
+use trace_record::Ask;
+use trace_record::sound::step;
 
 mod inputs;
 
@@ -24,57 +28,48 @@ pub fn number(bytes: &[u8], at: usize) -> u64
     requires { at + 8 ≤ length bytes.now }
     ensures { result ≡ little (take 8 (drop at bytes.now)) }
 {
-    let mut n: u64 = 0;
-    let mut j: usize = 8;
-    while j > 0 {
-        j -= 1;
-        n = n * 256 + bytes[at + j] as u64;
-    }
-    n
+    let eight = <[u8; 8]>::try_from(&bytes[at..at + 8]).unwrap();
+    u64::from_le_bytes(eight)
 }
 
 // Carries out the whole records among the first bytes of an input. Each record prints at most three bytes for each of its own.
 fn feed(
-    keys: &mut [u64],
-    freqs: &mut [u64],
+    guests: &mut Guests<&mut [u64]>,
     epochs: &mut [u64],
-    prevs: &mut [u64],
-    nexts: &mut [u64],
-    arena: &mut [u64],
-    index: &mut [u64],
-    buckets: &mut [u64],
-    spares: &mut [u64],
+    levels: &mut Levels<&mut [u64]>,
     values: &mut [u64],
-    state: State,
+    state: &mut State,
     input: &[u8],
     n: usize,
     out: &mut [u8],
 ) -> Fed
-    requires { Sound cache (lent keys.old freqs.old epochs.old prevs.old nexts.old arena.old index.old buckets.old spares.old values.old) state × (n ≤ length input.now) × (n * PRINT ≤ length out.old) }
-    ensures { Feeds
-        (lent keys.old freqs.old epochs.old prevs.old nexts.old arena.old index.old buckets.old spares.old values.old) state input.now n
-        (lent keys.new freqs.new epochs.new prevs.new nexts.new arena.new index.new buckets.new spares.new values.new) out.new result }
+    requires { Sound cache (lent guests.old epochs.old levels.old values.old) state.old × (n ≤ length input.now) × (n * PRINT ≤ length out.old) }
+    ensures same { Same guests.old guests.new levels.old levels.new }
+    ensures does { Feeds (lent guests.old epochs.old levels.old values.old) state.old input.now n
+        (lent guests.new epochs.new levels.new values.new) state.new out.new result }
 {
-    let mut at: usize = 0;
-    let mut next: usize = 0;
-    let mut after = state;
+    let mut at = 0;
+    let mut next = 0;
+    // A `while` and not `chunks_exact`, since where the next record begins is answered too.
     while n - next >= RECORD {
-        let code = input[next];
-        let key = Key(number(input, next + 1));
-        let value = number(input, next + 9);
-        let stepped = trace_record::sound::step(
-            keys, freqs, epochs, prevs, nexts, arena, index, buckets, spares, values, after, code,
-            key, value, out, at,
+        let ask = Ask {
+            key: Key(number(input, next + 1)),
+            value: number(input, next + 9),
+        };
+        at = step(
+            guests,
+            epochs,
+            levels,
+            values,
+            state,
+            input[next],
+            ask,
+            out,
+            at,
         );
-        at = stepped.at;
-        after = stepped.state;
         next += RECORD;
     }
-    Fed {
-        at: at,
-        next: next,
-        state: after,
-    }
+    Fed { at, next }
 }
 
 // The last line, where a part is not full: there the input ends.
@@ -88,36 +83,22 @@ fn close(out: &mut [u8], at: usize, n: usize, left: usize, count: u64) -> usize
     at
 }
 
-// Prints a part of the input: its records and, where the input ends in it, the last line.
+// Prints a part of the input: its records and, where the input ends in it, the last line. The answer is where the printed bytes end.
 pub fn part(
-    keys: &mut [u64],
-    freqs: &mut [u64],
+    guests: &mut Guests<&mut [u64]>,
     epochs: &mut [u64],
-    prevs: &mut [u64],
-    nexts: &mut [u64],
-    arena: &mut [u64],
-    index: &mut [u64],
-    buckets: &mut [u64],
-    spares: &mut [u64],
+    levels: &mut Levels<&mut [u64]>,
     values: &mut [u64],
-    state: State,
+    state: &mut State,
     input: &[u8],
     n: usize,
     out: &mut [u8],
-) -> Printed
-    requires { Sound cache (lent keys.old freqs.old epochs.old prevs.old nexts.old arena.old index.old buckets.old spares.old values.old) state × (n ≤ length input.now) × (n * PRINT + LONGEST ≤ length out.old) }
-    ensures { Parts
-        (lent keys.old freqs.old epochs.old prevs.old nexts.old arena.old index.old buckets.old spares.old values.old) state input.now n
-        (lent keys.new freqs.new epochs.new prevs.new nexts.new arena.new index.new buckets.new spares.new values.new) out.new result }
+) -> usize
+    requires { Sound cache (lent guests.old epochs.old levels.old values.old) state.old × (n ≤ length input.now) × (n * PRINT + LONGEST ≤ length out.old) }
+    ensures same { Same guests.old guests.new levels.old levels.new }
+    ensures does { Parts (lent guests.old epochs.old levels.old values.old) state.old input.now n
+        (lent guests.new epochs.new levels.new values.new) state.new out.new result }
 {
-    let fed = feed(
-        keys, freqs, epochs, prevs, nexts, arena, index, buckets, spares, values, state, input, n,
-        out,
-    );
-    let after = fed.state;
-    let at = close(out, fed.at, n, n - fed.next, after.count);
-    Printed {
-        at: at,
-        state: after,
-    }
+    let fed = feed(guests, epochs, levels, values, state, input, n, out);
+    close(out, fed.at, n, n - fed.next, state.count)
 }

@@ -1,31 +1,29 @@
 -- The line of each answer of a cache call, as the code has the answer.
-use Rattle.answers.specs.declared.Level.{Level}
-use Rattle.answers.specs.declared.Level.TheVariants as level
+use Rattle.std.specs.Prelude.{ℕ, Result, Ok, Err}
+use Rattle.numbers.specs.declared.Key.{Key}
+use Rattle.numbers.specs.declared.Frequency.{Frequency}
+use Rattle.numbers.specs.declared.Refusal.{Refusal}
 use Rattle.answers.specs.declared.Insertion.{Insertion}
 use Rattle.answers.specs.declared.Insertion.TheVariants as insertion
-use Rattle.answers.specs.declared.Value.{Value}
-use Rattle.answers.specs.declared.Value.TheVariants as value
-use Rattle.answers.specs.declared.LeastUsed.{LeastUsed}
-use Rattle.answers.specs.declared.LeastUsed.TheVariants as least
 use Rattle.trace.specs.declared.Word.{Word}
 use Rattle.trace.specs.declared.Word.TheVariants as word
 use Rattle.trace.specs.declared.Line.{Line}
 use Rattle.trace.specs.declared.Line.TheVariants.{Plain, One, Two}
 
-abbrev pub insertion_line : Insertion → Line
-insertion_line insertion.New = Plain word.New
-insertion_line (insertion.NewOut k) = One word.NewOut k.0
-insertion_line (insertion.Old v) = One word.Old v
-insertion_line (insertion.Refused a) = Plain word.Full
+abbrev pub insertion_line : Result Insertion Refusal → Line
+insertion_line (Ok insertion.New) = Plain word.New
+insertion_line (Ok (insertion.NewOut k)) = One word.NewOut k.0
+insertion_line (Ok (insertion.Old v)) = One word.Old v
+insertion_line (Err why) = Plain word.Full
 
-abbrev pub value_line : Word → Value → Line
-value_line w (value.Is v) = One w v
-value_line w (value.Refused a) = Plain word.Miss
+abbrev pub value_line : Word → Result ℕ Refusal → Line
+value_line w (Ok v) = One w v
+value_line w (Err why) = Plain word.Miss
 
-abbrev pub least_line : Word → LeastUsed → Line
-least_line w (least.Is k v) = Two w k.0 v
-least_line w (least.Refused a) = Plain word.Nothing
+abbrev pub least_line : Word → Result (Key × ℕ) Refusal → Line
+least_line w (Ok p) = Two w p.0.0 p.1
+least_line w (Err why) = Plain word.Nothing
 
-abbrev pub level_line : Level → Line
-level_line (level.At f) = One word.Reset f.0
-level_line (level.Refused a) = Plain word.Miss
+abbrev pub level_line : Result Frequency Refusal → Line
+level_line (Ok f) = One word.Reset f.0
+level_line (Err why) = Plain word.Miss

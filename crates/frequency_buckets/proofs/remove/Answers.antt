@@ -1,17 +1,15 @@
 -- Checked, then done on sound tables; or refused by the check, with nothing changed.
-use mathlib.Core.Path.{refl}
+use Rattle.std.proofs.Common.{rules}
 use Rattle.ledger.specs.BucketCalls.{calls, Remove}
 use Rattle.buckets_tables.proofs.Public as public
 use Rattle.frequency_buckets.proofs.remove.Goals as goal
 
 pub remove-requires : goal.remove-requires
-remove-requires c = (public.checked _ _ _ _ c.refusal-why.ensures c.is_done.ensures c.if-is_done.true)
+remove-requires c = public.checked _ _ _ c.check.ensures _ c.in_ok-check.was
 
-pub returns-then-is_done : goal.returns-then-is_done
+pub returns-clause-does : goal.returns-clause-does
 unfolding calls
-returns-then-is_done c =
-    public.makes _ _ _ _ c.refusal-why.ensures c.is_done.ensures
-    (Remove _) _ _ _ c.if-is_done.true c.remove.ensures
+returns-clause-does c = public.makes _ _ _ c.check.ensures (Remove _) _ _ _ _ c.in_ok-check.was c.remove.ensures.does
 
-pub returns : goal.returns
-returns c = public.refuses _ _ _ _ c.refusal-why.ensures c.is_done.ensures _ _ c.if-is_done.false refl
+pub returns-in_err-check-clause-does : goal.returns-in_err-check-clause-does
+returns-in_err-check-clause-does c = public.refuses _ _ _ c.check.ensures _ _ _ c.in_err-check.was (search rules)

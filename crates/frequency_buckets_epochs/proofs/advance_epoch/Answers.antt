@@ -1,14 +1,12 @@
 -- Checked, then done on sound tables; or refused by the check, with nothing changed.
-use mathlib.Core.Path.{refl}
+use Rattle.std.proofs.Common.{rules}
 use Rattle.ledger.specs.BucketCalls.{calls, AdvanceEpoch}
 use Rattle.buckets_tables.proofs.Public as public
 use Rattle.frequency_buckets_epochs.proofs.advance_epoch.Goals as goal
 
-pub returns-then-is_done : goal.returns-then-is_done
-unfolding calls
-returns-then-is_done c =
-    public.makes _ _ _ _ c.refusal-why.ensures c.is_done.ensures
-    (AdvanceEpoch) _ _ _ c.if-is_done.true (c.advance_epoch-after.ensures _)
-
 pub returns : goal.returns
-returns c = public.refuses _ _ _ _ c.refusal-why.ensures c.is_done.ensures _ _ c.if-is_done.false refl
+unfolding calls
+returns c = public.makes _ _ _ c.check.ensures AdvanceEpoch _ _ _ _ c.in_ok-check.was (c.advance_epoch.ensures _)
+
+pub returns-in_err-check : goal.returns-in_err-check
+returns-in_err-check c = public.refuses _ _ _ c.check.ensures _ _ _ c.in_err-check.was (search rules)

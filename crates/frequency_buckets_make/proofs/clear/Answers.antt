@@ -1,19 +1,16 @@
 -- Checked, then done on sound tables; or refused by the check, with nothing changed.
+use Rattle.std.proofs.Common.{rules}
 use Rattle.ledger.specs.BucketCalls.{calls, Clear}
-use Rattle.buckets_tables.proofs.Public as public
-use Rattle.buckets_calls.proofs.Plain.{plain_refused}
 use Rattle.buckets_tables.proofs.Clearing.{sound_fitting, clear_does}
+use Rattle.buckets_tables.proofs.Public as public
 use Rattle.frequency_buckets_make.proofs.clear.Goals as goal
 
-pub make-made-requires : goal.make-made-requires
-make-made-requires c = sound_fitting _ _ (public.checked _ _ _ _ c.refusal-why.ensures c.is_done.ensures c.if-is_done.true)
+pub make-requires : goal.make-requires
+make-requires c = sound_fitting _ _ (public.checked _ _ _ c.check.ensures _ c.in_ok-check.was)
 
-pub returns-then-is_done : goal.returns-then-is_done
+pub returns-clause-does : goal.returns-clause-does
 unfolding calls
-returns-then-is_done c =
-    public.makes _ _ _ _ c.refusal-why.ensures c.is_done.ensures
-    (Clear) _ _ _ c.if-is_done.true (clear_does _ _ _ _ _ _ _ _ _ _ _ c.make-made.ensures)
+returns-clause-does c = public.makes _ _ _ c.check.ensures Clear _ _ _ _ c.in_ok-check.was (clear_does _ _ _ _ _ _ _ _ _ c.make.ensures.does)
 
-pub returns : goal.returns
-returns c =
-    public.refuses _ _ _ _ c.refusal-why.ensures c.is_done.ensures _ _ c.if-is_done.false (plain_refused _ _ c.is_done.ensures c.if-is_done.false)
+pub returns-in_err-check-clause-does : goal.returns-in_err-check-clause-does
+returns-in_err-check-clause-does c = public.refuses _ _ _ c.check.ensures _ _ _ c.in_err-check.was (search rules)

@@ -1,16 +1,18 @@
 -- The lengths first; then the tables are made, or nothing is.
-use Rattle.buckets_calls.proofs.Plain.{plain_refused}
-use Rattle.frequency_buckets_make.proofs.News as news
+use Rattle.std.proofs.Common.{rules}
+use Rattle.promise.proofs.Makings.{fits_done, made_done, made_refused}
+use Rattle.buckets_tables.specs.Lent.{buckets}
+use Rattle.buckets_tables.proofs.Clearing.{sized_fitting}
 use Rattle.frequency_buckets_make.proofs.new.Goals as goal
 
-pub make-made-requires : goal.make-made-requires
-make-made-requires c = news.fitting _ _ _ _ c.misfit-why.ensures c.is_done.ensures c.if-is_done.true
+pub make-requires : goal.make-requires
+make-requires c =
+    let fits = fits_done buckets _ _ _ c.measure.ensures _ c.in_ok-measure.was in sized_fitting _ _ fits.0 fits.1
 
-pub returns-then-is_done : goal.returns-then-is_done
-returns-then-is_done c =
-    news.makes_new _ _ _ _ c.misfit-why.ensures c.is_done.ensures
-    _ _ _ _ _ _ _ _ _ c.if-is_done.true c.make-made.ensures
+pub returns-clause-does : goal.returns-clause-does
+returns-clause-does c =
+    let fits = fits_done buckets _ _ _ c.measure.ensures _ c.in_ok-measure.was in
+    made_done buckets _ _ _ c.measure.ensures _ _ _ _ c.in_ok-measure.was (c.make.ensures.does _ fits.1.buckets_size)
 
-pub returns : goal.returns
-returns c =
-    news.refuses_new _ _ _ _ c.misfit-why.ensures c.is_done.ensures _ _ c.if-is_done.false (plain_refused _ _ c.is_done.ensures c.if-is_done.false) c.nothing.ensures
+pub returns-in_err-measure-clause-does : goal.returns-in_err-measure-clause-does
+returns-in_err-measure-clause-does c = made_refused buckets _ _ _ c.measure.ensures _ _ _ c.in_err-measure.was (search rules)

@@ -1,18 +1,12 @@
 -- Checked, then told by the entry.
-use mathlib.Core.Path.{refl}
+use Rattle.std.proofs.Common.{rules}
 use Rattle.ledger.specs.BucketCalls.{asks, EntryEpoch}
 use Rattle.buckets_tables.proofs.Public as public
-use Rattle.buckets_reads.proofs.Asking as asking
 use Rattle.frequency_buckets_queries.proofs.entry_epoch.Goals as goal
 
-pub entry_epoch-requires : goal.entry_epoch-requires
-entry_epoch-requires c =
-    asking.with_epochs _ _ _ _ _ _ _ _ _ _ (public.checked _ _ _ _ c.refusal-why.ensures c.is_done.ensures c.if-is_done.true)
-
-pub returns-then-is_done : goal.returns-then-is_done
-unfolding asks
-returns-then-is_done c =
-    public.answers _ _ _ _ c.refusal-why.ensures c.is_done.ensures (EntryEpoch _) _ c.if-is_done.true (c.entry_epoch.ensures _ _ _ _ _ _ _)
-
 pub returns : goal.returns
-returns c = public.refuses _ _ _ _ c.refusal-why.ensures c.is_done.ensures _ _ c.if-is_done.false refl
+unfolding asks
+returns c = public.answers _ _ _ c.check.ensures (EntryEpoch _) _ _ c.in_ok-check.was (c.entry_epoch.ensures _ _ _ _ _ _ _)
+
+pub returns-in_err-check : goal.returns-in_err-check
+returns-in_err-check c = public.refuses _ _ _ c.check.ensures _ _ _ c.in_err-check.was (search rules)

@@ -1,12 +1,12 @@
 -- Checked, then told by the state.
-use mathlib.Core.Path.{refl}
+use Rattle.std.proofs.Common.{rules}
 use Rattle.ledger.specs.BucketCalls.{asks, Len}
 use Rattle.buckets_tables.proofs.Public as public
 use Rattle.frequency_buckets_queries.proofs.len.Goals as goal
 
-pub returns-then-is_done : goal.returns-then-is_done
-unfolding asks
-returns-then-is_done c = public.answers _ _ _ _ c.refusal-why.ensures c.is_done.ensures (Len) _ c.if-is_done.true (c.len.ensures _)
-
 pub returns : goal.returns
-returns c = public.refuses _ _ _ _ c.refusal-why.ensures c.is_done.ensures _ _ c.if-is_done.false refl
+unfolding asks
+returns c = public.answers _ _ _ c.check.ensures Len _ _ c.in_ok-check.was (c.len.ensures _)
+
+pub returns-in_err-check : goal.returns-in_err-check
+returns-in_err-check c = public.refuses _ _ _ c.check.ensures _ _ _ c.in_err-check.was (search rules)

@@ -1,16 +1,12 @@
 -- Checked, then told by the lowest list.
-use mathlib.Core.Path.{refl}
+use Rattle.std.proofs.Common.{rules}
 use Rattle.ledger.specs.BucketCalls.{asks, PeekMin}
 use Rattle.buckets_tables.proofs.Public as public
 use Rattle.frequency_buckets_queries.proofs.peek_min.Goals as goal
 
-pub peek_min-requires : goal.peek_min-requires
-peek_min-requires c = (_, _, _, _, _, _, public.checked _ _ _ _ c.refusal-why.ensures c.is_done.ensures c.if-is_done.true)
-
-pub returns-then-is_done : goal.returns-then-is_done
-unfolding asks
-returns-then-is_done c =
-    public.answers _ _ _ _ c.refusal-why.ensures c.is_done.ensures (PeekMin) _ c.if-is_done.true (c.peek_min.ensures _ _ _ _ _ _)
-
 pub returns : goal.returns
-returns c = public.refuses _ _ _ _ c.refusal-why.ensures c.is_done.ensures _ _ c.if-is_done.false refl
+unfolding asks
+returns c = public.answers _ _ _ c.check.ensures PeekMin _ _ c.in_ok-check.was (c.peek_min.ensures _ _ _ _ _ _)
+
+pub returns-in_err-check : goal.returns-in_err-check
+returns-in_err-check c = public.refuses _ _ _ c.check.ensures _ _ _ c.in_err-check.was (search rules)

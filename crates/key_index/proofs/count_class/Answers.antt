@@ -7,12 +7,9 @@ use borrow.Author.Tests.{ltb-true}
 use Rattle.numbers.specs.Marks.{NONE}
 use Rattle.lists.proofs.Tests.{neither}
 use Rattle.lists.proofs.Members.{final_append}
-use Rattle.key_index.proofs.Check.{meet_none, meet_more, meet_follows, meet_listed, meet_fault}
+use Rattle.key_index.proofs.Check.{meet_more, meet_follows, meet_listed, meet_fault}
 use Rattle.key_index.proofs.count_class.Goals as goal
 use Rattle.key_index.proofs.count_class.Goals.{then-loop-at-test+else-steps-capacity, else-loop-at-test}
-
-pub loop-at-init : goal.loop-at-init
-loop-at-init c = (refl, omega arith, ([], refl, refl, meet_none _ _ _))
 
 pub returns-then-not-follows : goal.returns-then-not-follows
 returns-then-not-follows c =
@@ -21,9 +18,6 @@ returns-then-not-follows c =
     let pre = c.requires in
     λ ss k.
     neither _ (c.follows.ensures.1 (rw (sym inv.2.2) (meet_follows _ _ _ us _ pre.0 inv.2.3 c.loop-at-test.true ss k))) c.if-not-follows.true
-
-pub loop-at-smaller : goal.loop-at-smaller
-loop-at-smaller c = omega (arith, ltb-true)
 
 pub loop-at-preserved : goal.loop-at-preserved
 loop-at-preserved c =
@@ -47,8 +41,8 @@ returns-then-at-eq-NONE c =
     let pre = c.requires in
     (inv.2.0, meet_listed _ _ _ inv.2.0 _ pre.0 inv.2.3 c.if-at-eq-NONE.true, inv.2.1)
 
-pub returns : goal.returns
-returns c =
+pub returns-else-at-eq-NONE : goal.returns-else-at-eq-NONE
+returns-else-at-eq-NONE c =
     let inv = c.loop-at.invariant in
     let pre = c.requires in
     meet_fault _ _ _ inv.2.0 _ pre.0 inv.2.3

@@ -1,5 +1,5 @@
 -- The slots gathered so far are those of the classes below c.
-use Prim.Native.Nat.{ℕ, ◌*◌, ◌≤◌, ◌-◌}
+use Prim.Native.Nat.{ℕ, ◌*◌, ◌≤◌}
 use mathlib.Core.Path.{◌≡◌}
 use mathlib.Core.List.{List}
 use lib.ListN.{length}
@@ -7,7 +7,4 @@ use Rattle.key_index.specs.Check.{Gathered}
 use Rattle.key_index.proofs.count_classes.Given as goal
 
 abbrev pub invariant-loop-c : goal.invariant-loop-c
-invariant-loop-c l = (l.c ≤ length l.keys) × (l.n ≤ 4096 * l.c) × ((ms : List ℕ) × (length ms ≡ l.n) × Gathered l.index l.keys l.c ms)
-
-abbrev pub decreases-loop-c : goal.decreases-loop-c
-decreases-loop-c l = length l.keys - l.c
+invariant-loop-c l = (l.n ≤ 4096 * l.c) × ((ms : List ℕ) × (length ms ≡ l.n) × Gathered l.index l.keys l.c ms)

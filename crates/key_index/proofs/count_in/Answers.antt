@@ -1,34 +1,32 @@
--- The slots counted so far are those below i.
+-- The chain counts the links that are not the mark; the link at k is that of slot k.
+use Prim.Native.Nat.{◌-◌}
+use borrow.Author.Rules.{rules}
 use native.Mathlib.Omega.{arith}
-use mathlib.Core.Path.{◌≡◌, refl, ap, ◌∙◌}
+use mathlib.Core.Path.{◌≡◌, ap, ◌∙◌}
 use mathlib.Core.Bool.{not}
-use lib.ListN.{length}
-use borrow.Author.Tests.{eq-eqb, ne_eqb}
+use lib.Dec.{eqb}
+use lib.ListN.{length, drop, take}
+use Rattle.std.specs.Prelude.{count_by}
+use Rattle.std.proofs.lemmas.List.{get_or-drop, length-drop, take_all}
 use Rattle.lists.specs.Marks.{mark, count}
-use Rattle.lists.proofs.Pigeonhole.{count_more}
-use Rattle.key_index.specs.Index.{OUT, link_of}
+use Rattle.lists.proofs.Totals.{total_same}
+use Rattle.links.specs.Chain.{cells}
+use Rattle.links.proofs.Counts.{count_cells}
+use Rattle.key_index.specs.Index.{OUT}
 use Rattle.key_index.specs.Check.{marked}
 use Rattle.key_index.proofs.count_in.Goals as goal
-use Rattle.key_index.proofs.count_in.Goals.{then-index-capacity-ne-OUT, else-index-capacity-ne-OUT}
-
-pub loop-i-init : goal.loop-i-init
-loop-i-init c = (refl, omega arith, omega arith, refl)
-
-pub loop-i-preserved : goal.loop-i-preserved
-loop-i-preserved c =
-    let index = c.args.index.now in
-    let keys = c.args.keys.now in
-    let i = c.loop-i.i in
-    let more = count_more (marked index keys) i in
-    elim c.if-index-capacity-ne-OUT.branch [
-      | then-index-capacity-ne-OUT w ↦
-          (refl, omega arith, omega arith, omega (arith, ap (λ b. mark (not b)) (ne_eqb (link_of index keys i) OUT w.if-index-capacity-ne-OUT.true)))
-      | else-index-capacity-ne-OUT w ↦
-          (refl, omega arith, omega arith, omega (arith, ap (λ b. mark (not b)) (eq-eqb (link_of index keys i) OUT w.if-index-capacity-ne-OUT.false)))
-    ]
 
 pub returns : goal.returns
 returns c =
-    let inv = c.loop-i.invariant in
-    let all : c.loop-i.i ≡ length c.args.keys.now = omega arith in
-    inv.3 ∙ ap (count (marked c.args.index.now c.args.keys.now)) all
+    let index = c.args.index.now in
+    let keys = c.args.keys.now in
+    let links = drop (length keys) index in
+    let size : length links ≡ length index - length keys = length-drop (length keys) index in
+    let all : length links ≡ length keys = omega (arith, c.requires.1) in
+    let counted : c.count.result ≡ count_by (λ w. not (eqb w OUT)) (take (length index - length keys) links) = search rules in
+    counted
+    ∙ ap (count_by (λ w. not (eqb w OUT))) (take_all (length index - length keys) links (omega arith))
+    ∙ count_cells (λ w. not (eqb w OUT)) links
+    ∙ total_same (λ k. mark (not (eqb (cells links k) OUT))) (λ k. mark (marked index keys k)) (length links)
+    (λ k l. ap (λ w. mark (not (eqb w OUT))) (get_or-drop (length keys) index k 0))
+    ∙ ap (count (marked index keys)) all

@@ -1,13 +1,6 @@
 -- Checked, then done on sound tables; or refused by the check, with nothing changed.
-use mathlib.Core.Path.{refl}
 use Rattle.cache_tables.proofs.Public as public
 use Rattle.lfu.proofs.get.Goals as goal
 
-pub get-requires : goal.get-requires
-get-requires c = (_, (public.checked _ _ _ _ c.refusal-why.ensures c.is_done.ensures c.if-is_done.true))
-
-pub returns-then-is_done : goal.returns-then-is_done
-returns-then-is_done c = public.does _ _ _ _ c.refusal-why.ensures c.is_done.ensures _ _ _ _ c.if-is_done.true (c.get.ensures _)
-
-pub returns : goal.returns
-returns c = public.refuses _ _ _ _ c.refusal-why.ensures c.is_done.ensures _ _ c.if-is_done.false refl
+pub returns-clause-does : goal.returns-clause-does
+returns-clause-does c = public.does _ _ _ c.check.ensures _ _ _ _ _ c.in_ok-check.was (c.get.ensures.does _)

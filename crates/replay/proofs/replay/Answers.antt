@@ -4,4 +4,4 @@ use Rattle.trace.proofs.Beginning.{begins_fits}
 use Rattle.replay.proofs.replay.Goals as goal
 
 pub start-requires : goal.start-requires
-start-requires c = (begins_fits _ _ (sym c.header-begun.ensures ∙ c.in-Begins.is)).1
+start-requires c = (begins_fits _ _ (sym c.header.ensures ∙ c.in-Ok.is)).1

@@ -1,5 +1,4 @@
 -- The law of a walk of a chain, with the slots passed so far, how many they are, and the last of them.
-use borrow.Author.Rules.{rules}
 use native.Mathlib.Omega.{arith}
 use mathlib.Core.Path.{refl, ◌∙◌}
 use mathlib.Core.List.{[], ◌∷◌, ◌++◌}
@@ -7,14 +6,8 @@ use lib.ListN.{length-append}
 use borrow.Author.Tests.{ltb-false, ltb-true}
 use Rattle.numbers.specs.Marks.{NONE}
 use Rattle.lists.proofs.Members.{final_append}
-use Rattle.links.proofs.Chains.{walk_none, walk_more, walk_done}
+use Rattle.links.proofs.Chains.{walk_more, walk_done}
 use Rattle.slot_arena.proofs.walk.Goals as goal
-
-pub loop-at-init : goal.loop-at-init
-loop-at-init c = (refl, search rules, ([], refl, refl, walk_none _ _ _))
-
-pub loop-at-smaller : goal.loop-at-smaller
-loop-at-smaller c = omega (arith, ltb-true)
 
 pub loop-at-preserved : goal.loop-at-preserved
 loop-at-preserved c =

@@ -10,49 +10,46 @@ ghost use Rattle.trace_input.specs.Parts.{part_output, InputShows};
 
 use crate::sound::part;
 use bucket_table::WORDS;
+use buckets_tables::Guests;
+use levels::Levels;
+use lfu_make::sound::make;
+use trace::Line;
 use trace::input::{HEADER, header};
 use trace::sound::write;
-use trace::{Header, Line};
 
 // Some records on tables of a capacity, which may have held anything.
 fn afresh(
-    keys: &mut [u64],
-    freqs: &mut [u64],
+    guests: &mut Guests<&mut [u64]>,
     epochs: &mut [u64],
-    prevs: &mut [u64],
-    nexts: &mut [u64],
-    arena: &mut [u64],
-    index: &mut [u64],
-    buckets: &mut [u64],
-    spares: &mut [u64],
+    levels: &mut Levels<&mut [u64]>,
     values: &mut [u64],
     capacity: u64,
     records: &[u8],
     out: &mut [u8],
 ) -> usize
-    requires { Sizes (lent keys.old freqs.old epochs.old prevs.old nexts.old arena.old index.old buckets.old spares.old values.old) capacity × (length records.now * PRINT + LONGEST ≤ length out.old) }
+    requires { Sizes (lent guests.old epochs.old levels.old values.old) capacity × (length records.now * PRINT + LONGEST ≤ length out.old) }
     ensures { InputShows (part_output (new_cache capacity) records.now) out.new result }
 {
-    let state = lfu_make::sound::make(
-        keys, freqs, epochs, prevs, nexts, arena, index, spares, values, capacity,
-    );
-    let printed = part(
-        keys,
-        freqs,
+    let mut state = make(
+        guests,
         epochs,
-        prevs,
-        nexts,
-        arena,
-        index,
-        buckets,
-        spares,
+        levels.freqs,
+        levels.prevs,
+        levels.nexts,
+        levels.spares,
         values,
-        state,
+        capacity,
+    );
+    part(
+        guests,
+        epochs,
+        levels,
+        values,
+        &mut state,
         records,
         records.len(),
         out,
-    );
-    printed.at
+    )
 }
 
 // The tables hold 256 slots; the first places, as many as the capacity calls for, are lent.
@@ -70,18 +67,22 @@ fn start(capacity: usize, records: &[u8], out: &mut [u8]) -> usize
     let mut buckets = [0u64; 1792];
     let mut spares = [0u64; 256];
     let mut values = [0u64; 256];
-    let twice = capacity + capacity;
-    let words = capacity * WORDS as usize;
+    let mut guests = Guests {
+        keys: &mut keys[..capacity],
+        arena: &mut arena[..capacity],
+        index: &mut index[..capacity + capacity],
+    };
+    let mut levels = Levels {
+        freqs: &mut freqs[..capacity],
+        prevs: &mut prevs[..capacity],
+        nexts: &mut nexts[..capacity],
+        buckets: &mut buckets[..capacity * WORDS as usize],
+        spares: &mut spares[..capacity],
+    };
     afresh(
-        &mut keys[..capacity],
-        &mut freqs[..capacity],
+        &mut guests,
         &mut epochs[..capacity],
-        &mut prevs[..capacity],
-        &mut nexts[..capacity],
-        &mut arena[..capacity],
-        &mut index[..twice],
-        &mut buckets[..words],
-        &mut spares[..capacity],
+        &mut levels,
         &mut values[..capacity],
         capacity as u64,
         records,
@@ -94,9 +95,8 @@ pub fn whole(input: &[u8], out: &mut [u8]) -> usize
     requires { (length input.now < PART) × (length input.now * PRINT + LONGEST ≤ length out.old) }
     ensures { InputShows (output input.now) out.new result }
 {
-    let begun = header(input);
-    match begun {
-        Header::Stops(word) => write(out, 0, Line::Plain(word)),
-        Header::Begins(capacity) => start(capacity, &input[HEADER..], out),
+    match header(input) {
+        Ok(capacity) => start(capacity, &input[HEADER..], out),
+        Err(word) => write(out, 0, Line::Plain(word)),
     }
 }

@@ -1,279 +1,211 @@
-// The eight operations, each a call of the cache and the line that its answer prints; and the operations that are none.
+// The eight operations, each a call of the cache and the line that its answer prints. Each that does not change who is bound where is lent only what its call takes.
 ghost use Rattle.std.specs.Prelude.{◌≡◌, length};
-ghost use Rattle.ledger.specs.History.{Insert, Remove, Evict};
-ghost use Rattle.promise.specs.Promise.{Sound};
+ghost use Rattle.ledger.specs.History.{Insert, Get, Remove, Reset, Evict, Clear};
+ghost use Rattle.promise.specs.Promise.{Sound, SoundBeside};
 ghost use Rattle.key_index.specs.Index.{IndexSound};
-ghost use Rattle.buckets_calls.specs.Calls.{Touchable};
-ghost use Rattle.buckets_calls.specs.Calls as eight;
+ghost use Rattle.levels.specs.Slices.{lent as lent_levels, SameLevels};
+ghost use Rattle.buckets_tables.specs.Slices.{Same};
+ghost use Rattle.buckets_tables.specs.Lent as nine;
+ghost use Rattle.buckets_calls.specs.Calls as buckets;
 ghost use Rattle.cache_tables.specs.Slices.{lent};
 ghost use Rattle.cache_tables.specs.Lent.{cache};
-ghost use Rattle.cache_calls.specs.Calls.{with, Gettable, CachePeekable};
+ghost use Rattle.cache_calls.specs.Calls.{with, with_any, CachePeekable};
 ghost use Rattle.trace.specs.Lines.{tells};
 ghost use Rattle.trace_record.specs.Answers.{insertion_line, value_line, least_line, level_line};
-ghost use Rattle.trace_record.specs.Steps.{beside, Clearable, OfGet, OfReset, OfPeek, OfPeekLfu, OfClear, Lines};
+ghost use Rattle.trace_record.specs.Steps.{Lines, LinesBeside, OfPeek, OfPeekLfu};
 
-use crate::{Ask, Told};
-use answers::{Insertion, LeastUsed, Level, Value};
+use crate::Ask;
+use answers::Insertion;
+use buckets_tables::{Guests, State};
+use levels::Levels;
+use numbers::{Frequency, Key, Refusal};
 use trace::{Line, Word};
 
 // The line of an insert.
-fn of_insertion(answer: Insertion) -> Line
+fn of_insertion(answer: Result<Insertion, Refusal>) -> Line
     ensures { result ≡ insertion_line answer }
 {
     match answer {
-        Insertion::New => Line::Plain(Word::New),
-        Insertion::NewOut(key) => Line::One(Word::NewOut, key.0),
-        Insertion::Old(value) => Line::One(Word::Old, value),
-        Insertion::Refused(_) => Line::Plain(Word::Full),
+        Ok(Insertion::New) => Line::Plain(Word::New),
+        Ok(Insertion::NewOut(key)) => Line::One(Word::NewOut, key.0),
+        Ok(Insertion::Old(value)) => Line::One(Word::Old, value),
+        Err(_) => Line::Plain(Word::Full),
     }
 }
 
 // The line of a call that answers a value.
-fn of_value(word: Word, answer: Value) -> Line
+fn of_value(word: Word, answer: Result<u64, Refusal>) -> Line
     ensures { result ≡ value_line word answer }
 {
     match answer {
-        Value::Is(value) => Line::One(word, value),
-        Value::Refused(_) => Line::Plain(Word::Miss),
+        Ok(value) => Line::One(word, value),
+        Err(_) => Line::Plain(Word::Miss),
     }
 }
 
 // The line of a call that answers a key and its value.
-fn of_least(word: Word, answer: LeastUsed) -> Line
+fn of_least(word: Word, answer: Result<(Key, u64), Refusal>) -> Line
     ensures { result ≡ least_line word answer }
 {
     match answer {
-        LeastUsed::Is(key, value) => Line::Two(word, key.0, value),
-        LeastUsed::Refused(_) => Line::Plain(Word::Nothing),
+        Ok((key, value)) => Line::Two(word, key.0, value),
+        Err(_) => Line::Plain(Word::Nothing),
     }
 }
 
 // The line of a call that answers a frequency.
-fn of_level(answer: Level) -> Line
+fn of_level(answer: Result<Frequency, Refusal>) -> Line
     ensures { result ≡ level_line answer }
 {
-    match answer {
-        Level::At(frequency) => Line::One(Word::Reset, frequency.0),
-        Level::Refused(_) => Line::Plain(Word::Miss),
-    }
+    of_value(Word::Reset, answer.map(|frequency| frequency.0))
 }
 
 // 1: a key and its value.
 pub(crate) fn insert(
-    keys: &mut [u64],
-    freqs: &mut [u64],
+    guests: &mut Guests<&mut [u64]>,
     epochs: &mut [u64],
-    prevs: &mut [u64],
-    nexts: &mut [u64],
-    arena: &mut [u64],
-    index: &mut [u64],
-    buckets: &mut [u64],
-    spares: &mut [u64],
+    levels: &mut Levels<&mut [u64]>,
     values: &mut [u64],
+    state: &mut State,
     ask: Ask,
-) -> Told
-    requires { Sound cache (lent keys.old freqs.old epochs.old prevs.old nexts.old arena.old index.old buckets.old spares.old values.old) ask.state }
-    ensures { Lines (tells (Insert ask.key.0 ask.value))
-        (lent keys.old freqs.old epochs.old prevs.old nexts.old arena.old index.old buckets.old spares.old values.old) ask.state result.line
-        (lent keys.new freqs.new epochs.new prevs.new nexts.new arena.new index.new buckets.new spares.new values.new) result.state }
+) -> Line
+    requires { Sound cache (lent guests.old epochs.old levels.old values.old) state.old }
+    ensures same { Same guests.old guests.new levels.old levels.new }
+    ensures does { Lines (tells (Insert ask.key.0 ask.value))
+        (lent guests.old epochs.old levels.old values.old) state.old result
+        (lent guests.new epochs.new levels.new values.new) state.new }
 {
-    let state = ask.state;
-    let key = ask.key;
-    let done = cache_inserts::sound::insert(
-        keys, freqs, epochs, prevs, nexts, arena, index, buckets, spares, values, state, key,
-        ask.value,
-    );
-    let answer = done.answer;
-    let after = done.state;
-    Told {
-        line: of_insertion(answer),
-        state: after,
-    }
+    of_insertion(cache_inserts::sound::insert(
+        guests, epochs, levels, values, state, ask.key, ask.value,
+    ))
 }
 
 // 2: a hit.
 pub(crate) fn get(
     keys: &[u64],
-    freqs: &mut [u64],
-    epochs: &mut [u64],
-    prevs: &mut [u64],
-    nexts: &mut [u64],
     index: &[u64],
-    buckets: &mut [u64],
-    spares: &mut [u64],
+    epochs: &mut [u64],
+    levels: &mut Levels<&mut [u64]>,
     values: &[u64],
-    ask: Ask,
-) -> Told
-    requires { Gettable (with keys.now freqs.old epochs.old prevs.old nexts.old index.now buckets.old spares.old values.now) ask.state }
-    ensures { OfGet ask.key.0
-        (with keys.now freqs.old epochs.old prevs.old nexts.old index.now buckets.old spares.old values.now) ask.state
-        (with keys.now freqs.new epochs.new prevs.new nexts.new index.now buckets.new spares.new values.now) result }
+    state: &mut State,
+    key: Key,
+) -> Line
+    requires { SoundBeside cache (with keys.now index.now epochs.old (lent_levels levels.old) values.now) state.old }
+    ensures same { SameLevels levels.old levels.new }
+    ensures does { LinesBeside (tells (Get key.0))
+        (with keys.now index.now epochs.old (lent_levels levels.old) values.now) state.old result
+        (with keys.now index.now epochs.new (lent_levels levels.new) values.now) state.new }
 {
-    let state = ask.state;
-    let key = ask.key;
-    let done = cache_calls::sound::get(
-        keys, freqs, epochs, prevs, nexts, index, buckets, spares, values, state, key,
-    );
-    let answer = done.answer;
-    let after = done.state;
-    Told {
-        line: of_value(Word::Hit, answer),
-        state: after,
-    }
+    of_value(
+        Word::Hit,
+        cache_calls::sound::get(keys, index, epochs, levels, values, state, key),
+    )
 }
 
 // 4: a key is let go.
 pub(crate) fn remove(
-    keys: &mut [u64],
-    freqs: &mut [u64],
+    guests: &mut Guests<&mut [u64]>,
     epochs: &mut [u64],
-    prevs: &mut [u64],
-    nexts: &mut [u64],
-    arena: &mut [u64],
-    index: &mut [u64],
-    buckets: &mut [u64],
-    spares: &mut [u64],
+    levels: &mut Levels<&mut [u64]>,
     values: &mut [u64],
-    ask: Ask,
-) -> Told
-    requires { Sound cache (lent keys.old freqs.old epochs.old prevs.old nexts.old arena.old index.old buckets.old spares.old values.old) ask.state }
-    ensures { Lines (tells (Remove ask.key.0))
-        (lent keys.old freqs.old epochs.old prevs.old nexts.old arena.old index.old buckets.old spares.old values.old) ask.state result.line
-        (lent keys.new freqs.new epochs.new prevs.new nexts.new arena.new index.new buckets.new spares.new values.new) result.state }
+    state: &mut State,
+    key: Key,
+) -> Line
+    requires { Sound cache (lent guests.old epochs.old levels.old values.old) state.old }
+    ensures same { Same guests.old guests.new levels.old levels.new }
+    ensures does { Lines (tells (Remove key.0))
+        (lent guests.old epochs.old levels.old values.old) state.old result
+        (lent guests.new epochs.new levels.new values.new) state.new }
 {
-    let state = ask.state;
-    let key = ask.key;
-    let done = cache_calls::sound::remove(
-        keys, freqs, epochs, prevs, nexts, arena, index, buckets, spares, values, state, key,
-    );
-    let answer = done.answer;
-    let after = done.state;
-    Told {
-        line: of_value(Word::Gone, answer),
-        state: after,
-    }
+    of_value(
+        Word::Gone,
+        cache_calls::sound::remove(guests, epochs, levels, values, state, key),
+    )
 }
 
 // 8: the key that was used least is let go.
 pub(crate) fn evict(
-    keys: &mut [u64],
-    freqs: &mut [u64],
+    guests: &mut Guests<&mut [u64]>,
     epochs: &mut [u64],
-    prevs: &mut [u64],
-    nexts: &mut [u64],
-    arena: &mut [u64],
-    index: &mut [u64],
-    buckets: &mut [u64],
-    spares: &mut [u64],
+    levels: &mut Levels<&mut [u64]>,
     values: &mut [u64],
-    ask: Ask,
-) -> Told
-    requires { Sound cache (lent keys.old freqs.old epochs.old prevs.old nexts.old arena.old index.old buckets.old spares.old values.old) ask.state }
-    ensures { Lines (tells Evict)
-        (lent keys.old freqs.old epochs.old prevs.old nexts.old arena.old index.old buckets.old spares.old values.old) ask.state result.line
-        (lent keys.new freqs.new epochs.new prevs.new nexts.new arena.new index.new buckets.new spares.new values.new) result.state }
+    state: &mut State,
+) -> Line
+    requires { Sound cache (lent guests.old epochs.old levels.old values.old) state.old }
+    ensures same { Same guests.old guests.new levels.old levels.new }
+    ensures does { Lines (tells Evict)
+        (lent guests.old epochs.old levels.old values.old) state.old result
+        (lent guests.new epochs.new levels.new values.new) state.new }
 {
-    let state = ask.state;
-    let done = cache_calls::sound::evict_min_freq(
-        keys, freqs, epochs, prevs, nexts, arena, index, buckets, spares, values, state,
-    );
-    let answer = done.answer;
-    let after = done.state;
-    Told {
-        line: of_least(Word::Out, answer),
-        state: after,
-    }
+    of_least(
+        Word::Out,
+        cache_calls::sound::evict_min_freq(guests, epochs, levels, values, state),
+    )
 }
 
 // 6: a key starts again.
 pub(crate) fn reset(
     keys: &[u64],
-    freqs: &mut [u64],
-    epochs: &mut [u64],
-    prevs: &mut [u64],
-    nexts: &mut [u64],
     index: &[u64],
-    buckets: &mut [u64],
-    spares: &mut [u64],
-    ask: Ask,
-) -> Told
-    requires { Touchable (eight.with keys.now freqs.old epochs.old prevs.old nexts.old index.now buckets.old spares.old) ask.state }
-    ensures { OfReset ask.key.0
-        (eight.with keys.now freqs.old epochs.old prevs.old nexts.old index.now buckets.old spares.old) ask.state
-        (eight.with keys.now freqs.new epochs.new prevs.new nexts.new index.now buckets.new spares.new) result }
+    epochs: &mut [u64],
+    levels: &mut Levels<&mut [u64]>,
+    state: &mut State,
+    key: Key,
+) -> Line
+    requires { SoundBeside nine.buckets (buckets.with keys.now index.now epochs.old (lent_levels levels.old)) state.old }
+    ensures same { SameLevels levels.old levels.new }
+    ensures does { LinesBeside (tells (Reset key.0))
+        (with_any (buckets.with keys.now index.now epochs.old (lent_levels levels.old))) state.old result
+        (with_any (buckets.with keys.now index.now epochs.new (lent_levels levels.new))) state.new }
 {
-    let state = ask.state;
-    let key = ask.key;
-    let done = cache_calls::sound::reset_frequency(
-        keys, freqs, epochs, prevs, nexts, index, buckets, spares, state, key,
-    );
-    let answer = done.answer;
-    let after = done.state;
-    Told {
-        line: of_level(answer),
-        state: after,
-    }
+    of_level(cache_calls::sound::reset_frequency(keys, index, epochs, levels, state, key))
 }
 
 // 3: a look at a value.
-pub(crate) fn peek(keys: &[u64], index: &[u64], values: &[u64], ask: Ask) -> Told
+pub(crate) fn peek(keys: &[u64], index: &[u64], values: &[u64], key: Key) -> Line
     requires { IndexSound index.now keys.now × (length values.now ≡ length keys.now) }
-    ensures { OfPeek ask.key.0 keys.now index.now values.now ask.state result }
+    ensures { OfPeek key.0 keys.now index.now values.now result }
 {
-    let state = ask.state;
-    let answer = cache_calls::sound::reads::peek(keys, index, values, ask.key);
-    Told {
-        line: of_value(Word::See, answer),
-        state: state,
-    }
+    of_value(
+        Word::See,
+        cache_calls::sound::reads::peek(keys, index, values, key),
+    )
 }
 
 // 5: a look at the key that was used least.
-pub(crate) fn least(keys: &[u64], buckets: &[u64], values: &[u64], ask: Ask) -> Told
-    requires { CachePeekable keys.now buckets.now values.now ask.state }
-    ensures { OfPeekLfu keys.now buckets.now values.now ask.state result }
+pub(crate) fn least(keys: &[u64], buckets: &[u64], values: &[u64], state: State) -> Line
+    requires { CachePeekable keys.now buckets.now values.now state }
+    ensures { OfPeekLfu keys.now buckets.now values.now state result }
 {
-    let state = ask.state;
-    let answer = cache_calls::sound::reads::peek_lfu(keys, buckets, values, state);
-    Told {
-        line: of_least(Word::Least, answer),
-        state: state,
-    }
+    of_least(
+        Word::Least,
+        cache_calls::sound::reads::peek_lfu(keys, buckets, values, state),
+    )
 }
 
 // 7: every key is let go.
 pub(crate) fn clear(
-    keys: &mut [u64],
-    freqs: &mut [u64],
+    guests: &mut Guests<&mut [u64]>,
     epochs: &mut [u64],
-    prevs: &mut [u64],
-    nexts: &mut [u64],
-    arena: &mut [u64],
-    index: &mut [u64],
-    spares: &mut [u64],
+    levels: &mut Levels<&mut [u64]>,
     values: &mut [u64],
-    ask: Ask,
-) -> Told
-    requires { Clearable (beside keys.old freqs.old epochs.old prevs.old nexts.old arena.old index.old spares.old values.old) ask.state }
-    ensures { OfClear
-        (beside keys.old freqs.old epochs.old prevs.old nexts.old arena.old index.old spares.old values.old) ask.state
-        (beside keys.new freqs.new epochs.new prevs.new nexts.new arena.new index.new spares.new values.new) result }
+    state: &mut State,
+) -> Line
+    requires { Sound cache (lent guests.old epochs.old levels.old values.old) state.old }
+    ensures same { Same guests.old guests.new levels.old levels.new }
+    ensures does { Lines (tells Clear)
+        (lent guests.old epochs.old levels.old values.old) state.old result
+        (lent guests.new epochs.new levels.new values.new) state.new }
 {
-    let state = ask.state;
-    let after = lfu_make::sound::make(
-        keys,
-        freqs,
+    *state = lfu_make::sound::make(
+        guests,
         epochs,
-        prevs,
-        nexts,
-        arena,
-        index,
-        spares,
+        levels.freqs,
+        levels.prevs,
+        levels.nexts,
+        levels.spares,
         values,
         state.capacity,
     );
-    Told {
-        line: Line::Plain(Word::Okay),
-        state: after,
-    }
+    Line::Plain(Word::Okay)
 }

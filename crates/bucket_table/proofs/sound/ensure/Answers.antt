@@ -3,12 +3,9 @@ use Rattle.lists.proofs.Tests.{said_no}
 use Rattle.bucket_table.proofs.Places as laws
 use Rattle.bucket_table.proofs.sound.ensure.Goals as goal
 
-pub is_level-requires : goal.is_level-requires
-is_level-requires c = laws.spot_at c.args.buckets.now _ _ c.above-number.ensures c.requires.above
-
 pub returns-then-is_level : goal.returns-then-is_level
 returns-then-is_level c = laws.opens_there _ _ _ _ _ _ c.above-number.ensures c.requires.above (c.is_level.ensures.0 c.if-is_level.true)
 
 pub returns : goal.returns
 returns c =
-    laws.opens_new _ _ _ _ _ _ c.above-number.ensures (said_no _ c.is_level.ensures c.if-is_level.false) _ _ _ c.make.ensures
+    laws.opens_new _ _ _ _ _ _ c.above-number.ensures (said_no _ c.is_level.ensures c.if-is_level.false) _ _ _ _ c.make.ensures

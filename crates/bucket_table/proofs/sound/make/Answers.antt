@@ -4,4 +4,4 @@ use Rattle.bucket_table.proofs.sound.make.Goals as goal
 
 pub returns : goal.returns
 returns c =
-    laws.makes _ _ _ _ _ c.requires _ c.above-higher.ensures _ _ c.take-taken.ensures _ _ _ _ _ c.fill.ensures c.link-bottom.ensures c.link-top.ensures
+    laws.makes _ _ _ _ _ c.requires _ c.above-higher.ensures _ _ _ c.take-number.ensures _ _ _ _ _ c.fill.ensures c.link-state.ensures c.link-state-2.ensures

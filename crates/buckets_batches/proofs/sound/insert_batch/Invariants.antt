@@ -1,14 +1,12 @@
 -- Each item is one insert more, and the count takes in its answer.
-use Prim.Native.Nat.{◌-◌}
-use lib.ListN.{length}
-use Rattle.buckets_tables.specs.Tables.{tables}
-use Rattle.buckets_batches.proofs.Batching.{Batching, inserts}
+use Rattle.std.proofs.Common.{◌≤◌}
+use Rattle.ledger.specs.Buckets.{insert}
+use Rattle.buckets_tables.specs.Slices.{lent, Same}
+use Rattle.buckets_batches.proofs.Batching.{Batching}
 use Rattle.buckets_batches.proofs.sound.insert_batch.Given as goal
 
-abbrev pub invariant-loop-i : goal.invariant-loop-i
-invariant-loop-i l =
-    Batching inserts l.items (tables l.initial.keys l.initial.freqs l.initial.epochs l.initial.prevs l.initial.nexts l.initial.arena l.initial.index l.initial.buckets l.initial.spares) l.initial.state l.i l.done (tables l.keys l.freqs l.epochs l.prevs l.nexts l.arena l.index l.buckets l.spares) l.state
-
-abbrev pub decreases-loop-i : goal.decreases-loop-i
-decreases-loop-i l =
-    length l.items - l.i
+abbrev pub invariant-loop-item : goal.invariant-loop-item
+invariant-loop-item l =
+    Same l.initial.guests l.guests l.initial.levels l.levels
+    × (l.done ≤ l.item-index)
+    × Batching insert l.items (lent l.initial.guests l.initial.epochs l.initial.levels) l.initial.state l.item-index l.done (lent l.guests l.epochs l.levels) l.state

@@ -2,8 +2,5 @@
 use Rattle.buckets_reads.proofs.Telling as telling
 use Rattle.buckets_reads.proofs.sound.bucket_len.Goals as goal
 
-pub count-requires : goal.count-requires
-count-requires c = let w = c.requires.8.1 in (_, _, _, _, (w.slots, w.lists))
-
 pub returns : goal.returns
 returns c = λ k f e p n a i sp. telling.bucket_len_told _ _ _ _ c.count.ensures

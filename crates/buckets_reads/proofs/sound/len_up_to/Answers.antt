@@ -2,8 +2,5 @@
 use Rattle.buckets_reads.proofs.Telling as telling
 use Rattle.buckets_reads.proofs.sound.len_up_to.Goals as goal
 
-pub count_up_to-requires : goal.count_up_to-requires
-count_up_to-requires c = let w = c.requires.8.1 in (_, _, _, _, (w.slots, w.lists))
-
 pub returns : goal.returns
 returns c = λ k f e p n a i sp. telling.len_up_to_told _ _ _ _ c.count_up_to.ensures

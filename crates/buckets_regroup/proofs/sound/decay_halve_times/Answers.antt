@@ -5,5 +5,5 @@ use Rattle.buckets_regroup.proofs.sound.decay_halve_times.Goals as goal
 pub regrouped-requires : goal.regrouped-requires
 regrouped-requires c = c.requires
 
-pub returns : goal.returns
-returns c = halves _ _ _ _ _ c.regrouped.ensures
+pub returns-clause-does : goal.returns-clause-does
+returns-clause-does c = halves _ _ _ _ _ c.regrouped.ensures.does

@@ -3,21 +3,20 @@ use Rattle.std.proofs.Common.{refl, rules}
 use Rattle.buckets_tables.proofs.Asked as asked
 use Rattle.buckets_tables.proofs.sound.hit.Goals as goal
 
-pub touch-touched-requires : goal.touch-touched-requires
-touch-touched-requires c = asked.slot_in_lists _ _ _ c.requires.3
+pub touch-frequency-requires : goal.touch-frequency-requires
+touch-frequency-requires c = asked.slot_in_lists _ _ _ c.requires.1
 
-pub offset_bounds-epochs-s : goal.offset_bounds-epochs-s
-offset_bounds-epochs-s c =
-    let slot = (asked.slot_sized _ _ _ c.requires.3).1 in let limit = asked.slot_limit _ _ _ c.requires.3 in search rules
+pub offset_bounds-epochs-slot : goal.offset_bounds-epochs-slot
+offset_bounds-epochs-slot c =
+    let slot = (asked.slot_sized _ _ _ c.requires.1).1 in let limit = asked.slot_limit _ _ _ c.requires.1 in search rules
 
-pub bounds-epochs-s : goal.bounds-epochs-s
-bounds-epochs-s c = (asked.slot_sized _ _ _ c.requires.3).1
+pub bounds-epochs-slot : goal.bounds-epochs-slot
+bounds-epochs-slot c = (asked.slot_sized _ _ _ c.requires.1).1
 
-pub lowest_frequency-lowest-requires : goal.lowest_frequency-lowest-requires
-lowest_frequency-lowest-requires c = asked.hit_lists_sound _ _ _ c.requires.3 _ _ _ _ _ _ _ c.touch-touched.ensures
+pub lowest_frequency-least-requires : goal.lowest_frequency-least-requires
+lowest_frequency-least-requires c = asked.hit_lists_sound _ _ _ c.requires.1 _ _ _ _ _ _ _ _ c.touch-frequency.ensures.does
 
-pub returns : goal.returns
-returns c =
-    let touched = c.touch-touched in
-    asked.hit_so _ _ _ _ _ _ _ _ _ _ _ _ _ _ _ _ _ refl c.lowest_frequency-lowest.ensures c.recounted-after.ensures
-    touched.auto.freqs touched.auto.prevs touched.auto.nexts touched.auto.buckets touched.auto.spares _ _ touched.ensures
+pub returns-clause-does : goal.returns-clause-does
+returns-clause-does c =
+    let touched = c.touch-frequency in
+    asked.hit_so _ _ _ _ _ _ _ _ _ refl c.lowest_frequency-least.ensures c.recount.ensures (asked.as_long _ _ touched.ensures.same) _ _ touched.ensures.does

@@ -1,14 +1,11 @@
 -- The cell of the slot, if there is one, says it all.
-use native.Mathlib.Omega.{arith}
+use Rattle.std.proofs.Common.{arith}
 use Rattle.lists.proofs.Tests.{said_no}
 use Rattle.buckets_walk.proofs.Walking as laws
 use Rattle.buckets_walk.proofs.sound.next.Goals as goal
 
 pub returns-then-is_free : goal.returns-then-is_free
 returns-then-is_free c = laws.next_free _ _ (c.is_free.ensures.0 c.if-is_free.true).1
-
-pub next-after-requires : goal.next-after-requires
-next-after-requires c = c.if-s-nexts.true
 
 pub returns-then-after-eq-NONE : goal.returns-then-after-eq-NONE
 returns-then-after-eq-NONE c =

@@ -1,40 +1,35 @@
 -- Key, frequency and epoch are read where the links lead.
-use mathlib.Core.Path.{subst}
-use borrow.Author.Rules.{rules}
-use Rattle.buckets_walk.specs.Walks.{Leads}
+use Rattle.std.proofs.Common.{rules, ◌∙◌}
 use Rattle.buckets_walk.proofs.Walking as laws
 use Rattle.buckets_walk.proofs.sound.walk_step.Goals as goal
 
-pub offset_bounds-keys-there : goal.offset_bounds-keys-there
-offset_bounds-keys-there c =
-    let below = (laws.step_below _ _ _ _ _ _ (subst (Leads c.args.nexts.now c.args.slot.0) c.in-At.is c.next.ensures) c.requires).0 in search rules
+pub returns-in_err-there : goal.returns-in_err-there
+returns-in_err-there c =
+    λ p a i b sp s l h. (search rules) ∙ laws.step_nowhere _ _ _ _ _ _ (rw c.in_err-there.was at c.next.ensures) p a i b sp s l h
 
-pub bounds-keys-there : goal.bounds-keys-there
-bounds-keys-there c =
-    (laws.step_below _ _ _ _ _ _ (subst (Leads c.args.nexts.now c.args.slot.0) c.in-At.is c.next.ensures) c.requires).1
+pub returns-in_default : goal.returns-in_default
+returns-in_default c = laws.step_past _ _ _ _ _ (rw c.in_default.is at c.in_ok-there.ensures)
 
-pub offset_bounds-freqs-there : goal.offset_bounds-freqs-there
-offset_bounds-freqs-there c =
-    let below = (laws.step_below _ _ _ _ _ _ (subst (Leads c.args.nexts.now c.args.slot.0) c.in-At.is c.next.ensures) c.requires).0 in search rules
+pub offset_bounds-keys-s : goal.offset_bounds-keys-s
+offset_bounds-keys-s c =
+    let below = laws.step_below _ _ _ _ _ _ (rw c.in-Some.is at c.in_ok-there.ensures) c.requires in search rules
 
-pub bounds-freqs-there : goal.bounds-freqs-there
-bounds-freqs-there c =
-    (laws.step_below _ _ _ _ _ _ (subst (Leads c.args.nexts.now c.args.slot.0) c.in-At.is c.next.ensures) c.requires).2
+pub bounds-keys-s : goal.bounds-keys-s
+bounds-keys-s c = (laws.step_below _ _ _ _ _ _ (rw c.in-Some.is at c.in_ok-there.ensures) c.requires).1
 
-pub offset_bounds-epochs-there : goal.offset_bounds-epochs-there
-offset_bounds-epochs-there c =
-    let below = (laws.step_below _ _ _ _ _ _ (subst (Leads c.args.nexts.now c.args.slot.0) c.in-At.is c.next.ensures) c.requires).0 in search rules
+pub offset_bounds-freqs-s : goal.offset_bounds-freqs-s
+offset_bounds-freqs-s c =
+    let below = laws.step_below _ _ _ _ _ _ (rw c.in-Some.is at c.in_ok-there.ensures) c.requires in search rules
 
-pub bounds-epochs-there : goal.bounds-epochs-there
-bounds-epochs-there c =
-    (laws.step_below _ _ _ _ _ _ (subst (Leads c.args.nexts.now c.args.slot.0) c.in-At.is c.next.ensures) c.requires).3
+pub bounds-freqs-s : goal.bounds-freqs-s
+bounds-freqs-s c = (laws.step_below _ _ _ _ _ _ (rw c.in-Some.is at c.in_ok-there.ensures) c.requires).2
 
-pub returns-in-At : goal.returns-in-At
-returns-in-At c = laws.step_shown _ _ _ _ _ _ (subst (Leads c.args.nexts.now c.args.slot.0) c.in-At.is c.next.ensures)
+pub offset_bounds-epochs-s : goal.offset_bounds-epochs-s
+offset_bounds-epochs-s c =
+    let below = laws.step_below _ _ _ _ _ _ (rw c.in-Some.is at c.in_ok-there.ensures) c.requires in search rules
 
-pub returns-in-NoMore : goal.returns-in-NoMore
-returns-in-NoMore c = laws.step_past _ _ _ _ _ (subst (Leads c.args.nexts.now c.args.slot.0) c.in-NoMore.is c.next.ensures)
+pub bounds-epochs-s : goal.bounds-epochs-s
+bounds-epochs-s c = (laws.step_below _ _ _ _ _ _ (rw c.in-Some.is at c.in_ok-there.ensures) c.requires).3
 
-pub returns-in-Absent : goal.returns-in-Absent
-returns-in-Absent c =
-    laws.step_nowhere _ _ _ _ _ (subst (Leads c.args.nexts.now c.args.slot.0) c.in-Absent.is c.next.ensures)
+pub returns : goal.returns
+returns c = laws.step_shown _ _ _ _ _ _ (rw c.in-Some.is at c.in_ok-there.ensures)

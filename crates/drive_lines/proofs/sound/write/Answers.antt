@@ -1,9 +1,12 @@
 -- The pieces of a line stand one behind another.
-use Rattle.drive_lines.proofs.Spelling.{alone_spelled, one_spelled, two_spelled, stored_spelled, just_spelled}
+use Rattle.drive_lines.proofs.Spelling.{done_spelled, refused_spelled, one_spelled, two_spelled, stored_spelled, just_spelled}
 use Rattle.drive_lines.proofs.sound.write.Goals as goal
 
-pub returns-in-Alone : goal.returns-in-Alone
-returns-in-Alone c = alone_spelled _ _ _ _ _ _ _ c.number.ensures c.number-end.ensures _ _ c.in-Alone.is c.put.ensures
+pub returns-in-Done : goal.returns-in-Done
+returns-in-Done c = done_spelled _ _ _ _ _ c.number-end.ensures _ _ c.in-Done.is c.put.ensures
+
+pub returns-in-Refused : goal.returns-in-Refused
+returns-in-Refused c = refused_spelled _ _ _ _ _ _ _ c.from.ensures c.number-end-in-Refused.ensures _ _ c.in-Refused.is c.put-in-Refused.ensures
 
 pub returns-in-One : goal.returns-in-One
 returns-in-One c =

@@ -3,4 +3,4 @@ use Rattle.buckets_tables.proofs.Redated as redated
 use Rattle.frequency_buckets_epochs.proofs.sound.advance_epoch.Goals as goal
 
 pub returns : goal.returns
-returns c = λ t. redated.epoch_advanced _ _ _ c.advanced.ensures
+returns c = λ t. redated.epoch_advanced _ _ _ c.advance.ensures

@@ -1,16 +1,15 @@
 -- Checked, then told by the links.
-use mathlib.Core.Path.{refl}
+use Rattle.std.proofs.Common.{rules}
 use Rattle.ledger.specs.BucketCalls.{asks, WalkStep}
 use Rattle.buckets_tables.proofs.Public as public
 use Rattle.frequency_buckets_queries.proofs.walk.step.Goals as goal
 
 pub walk_step-requires : goal.walk_step-requires
-walk_step-requires c = (_, _, _, _, _, _, public.checked _ _ _ _ c.refusal-why.ensures c.is_done.ensures c.if-is_done.true)
-
-pub returns-then-is_done : goal.returns-then-is_done
-unfolding asks
-returns-then-is_done c =
-    public.answers _ _ _ _ c.refusal-why.ensures c.is_done.ensures (WalkStep _) _ c.if-is_done.true (c.walk_step.ensures _ _ _ _ _ _)
+walk_step-requires c = (_, _, _, _, _, _, public.checked _ _ _ c.check.ensures _ c.in_ok-check.was)
 
 pub returns : goal.returns
-returns c = public.refuses _ _ _ _ c.refusal-why.ensures c.is_done.ensures _ _ c.if-is_done.false refl
+unfolding asks
+returns c = public.answers _ _ _ c.check.ensures (WalkStep _) _ _ c.in_ok-check.was (c.walk_step.ensures _ _ _ _ _ _)
+
+pub returns-in_err-check : goal.returns-in_err-check
+returns-in_err-check c = public.refuses _ _ _ c.check.ensures _ _ _ c.in_err-check.was (search rules)

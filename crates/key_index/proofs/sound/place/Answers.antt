@@ -22,12 +22,6 @@ loop-s-init c =
     let first = subst (Placing c.args.index.now c.args.keys.now c.args.key.0) (sym c.class_of-at.ensures) (place_start _ _ _ c.requires.0 c.requires.1) in
     (refl, refl, first)
 
-pub offset_bounds-index-at-in-loop-s : goal.offset_bounds-index-at-in-loop-s
-offset_bounds-index-at-in-loop-s c = omega (arith, c.requires.0.limit)
-
-pub bounds-index-at-in-loop-s : goal.bounds-index-at-in-loop-s
-bounds-index-at-in-loop-s c = omega (arith, c.requires.0.sized)
-
 pub loop-s-smaller : goal.loop-s-smaller
 loop-s-smaller c =
     let inv = c.loop-s.invariant in

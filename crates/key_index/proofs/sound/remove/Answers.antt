@@ -1,7 +1,5 @@
 -- The law of removing from the place of the key.
 use borrow.Author.Rules.{rules}
-use lib.ListN.{length-set}
-use native.Mathlib.Omega.{arith}
 use Rattle.key_index.proofs.Steps.{w_below, removed}
 use Rattle.key_index.proofs.sound.remove.Goals as goal
 
@@ -12,9 +10,6 @@ offset_bounds-index-at c =
 
 pub bounds-index-at : goal.bounds-index-at
 bounds-index-at c = w_below _ _ _ _ c.requires.0 c.place-at.ensures c.requires.1
-
-pub bounds-index-link-2 : goal.bounds-index-link-2
-bounds-index-link-2 c = simp length-set (omega (arith, c.requires.0.sized))
 
 pub returns : goal.returns
 returns c = removed _ _ _ _ c.requires.0 c.place-at.ensures c.requires.1

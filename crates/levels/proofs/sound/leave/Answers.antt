@@ -17,16 +17,16 @@ free-requires c =
 pub set_ends-requires : goal.set_ends-requires
 set_ends-requires c = laws.bound_record_in _ _ _ c.requires.bound _ c.requires.number
 
-pub returns-then-rest-ne-NONE : goal.returns-then-rest-ne-NONE
-returns-then-rest-ne-NONE c =
+pub returns-then-rest-ne-NONE-clause-does : goal.returns-then-rest-ne-NONE-clause-does
+returns-then-rest-ne-NONE-clause-does c =
     laws.leaves_some _ _ _ _ _ _ _ _ c.requires.number _ c.ends-ends.ensures _ _ _ c.unlink-rest.ensures _ _ _ c.free.ensures c.if-rest-ne-NONE.true _ c.set_ends.ensures
 
 pub below-at-requires : goal.below-at-requires
 below-at-requires c = laws.bound_record_in _ _ _ c.requires.bound _ c.requires.number
 
-pub remove-after-requires : goal.remove-after-requires
-remove-after-requires c = laws.bound_dropping _ _ _ c.requires.bound _ c.requires.number _ refl
+pub remove-requires : goal.remove-requires
+remove-requires c = laws.bound_dropping _ _ _ c.requires.bound _ c.requires.number _ refl
 
-pub returns : goal.returns
-returns c =
-    laws.leaves_none _ _ _ _ _ _ _ _ c.requires.number _ c.ends-ends.ensures _ _ _ c.unlink-rest.ensures _ _ _ c.free.ensures c.if-rest-ne-NONE.false _ c.below-at.ensures _ _ _ c.remove-after.ensures
+pub returns-clause-does : goal.returns-clause-does
+returns-clause-does c =
+    laws.leaves_none _ _ _ _ _ _ _ _ c.requires.number _ c.ends-ends.ensures _ _ _ c.unlink-rest.ensures _ _ _ c.free.ensures c.if-rest-ne-NONE.false _ c.below-at.ensures _ _ _ c.remove.ensures

@@ -5,9 +5,6 @@ use Rattle.bucket_table.proofs.Places.{spot_in}
 use Rattle.levels.proofs.Answers as laws
 use Rattle.levels.proofs.sound.level_ends.Goals as goal
 
-pub place-at-requires : goal.place-at-requires
-place-at-requires c = (c.requires.3, (_, c.requires.4.1.rep.records))
-
 pub above-number-requires : goal.above-number-requires
 above-number-requires c = (laws.head_spots c.args.buckets.now c.args.state _ _ _ c.place-at.ensures refl c.requires).0
 

@@ -1,15 +1,14 @@
 -- Each pair of items is one insert more, and the count takes in its answer.
-use Prim.Native.Nat.{◌-◌}
-use lib.ListN.{length, drop}
-use Rattle.buckets_tables.specs.Tables.{tables}
-use Rattle.cache_tables.specs.Tables.{with_values}
+use Rattle.std.specs.Iterator.Adapters.{zip_first, zip_second}
+use Rattle.std.specs.Slice.Iter.{iter_rest}
+use Rattle.buckets_tables.specs.Slices.{Same}
+use Rattle.cache_tables.specs.Slices.{lent}
 use Rattle.lfu_batches.specs.Batches.{pairs}
 use Rattle.lfu_batches.proofs.Batching.{Batching, inserts}
 use Rattle.lfu_batches.proofs.sound.insert_batch.Given as goal
 
-abbrev pub invariant-loop-i : goal.invariant-loop-i
-invariant-loop-i l =
-    Batching inserts (pairs l.items l.given) (pairs (drop l.i l.items) (drop l.i l.given)) (with_values (tables l.initial.keys l.initial.freqs l.initial.epochs l.initial.prevs l.initial.nexts l.initial.arena l.initial.index l.initial.buckets l.initial.spares) l.initial.values) l.initial.state l.i l.done (with_values (tables l.keys l.freqs l.epochs l.prevs l.nexts l.arena l.index l.buckets l.spares) l.values) l.state
-
-abbrev pub decreases-loop-i : goal.decreases-loop-i
-decreases-loop-i l = length l.items - l.i
+abbrev pub invariant-loop-item : goal.invariant-loop-item
+invariant-loop-item l =
+    Same l.initial.guests l.guests l.initial.levels l.levels ×
+    Batching inserts (pairs l.items l.given) (pairs (iter_rest (zip_first l.item-iterator)) (iter_rest (zip_second l.item-iterator)))
+    (lent l.initial.guests l.initial.epochs l.initial.levels l.initial.values) l.initial.state l.done (lent l.guests l.epochs l.levels l.values) l.state

@@ -1,14 +1,12 @@
 -- Each item is one removal more, and the count takes in its answer.
-use Prim.Native.Nat.{◌-◌}
-use lib.ListN.{length, drop}
-use Rattle.buckets_tables.specs.Tables.{tables}
-use Rattle.cache_tables.specs.Tables.{with_values}
+use Rattle.std.proofs.Common.{drop}
+use Rattle.buckets_tables.specs.Slices.{Same}
+use Rattle.cache_tables.specs.Slices.{lent}
 use Rattle.lfu_batches.proofs.Batching.{Batching, removes}
 use Rattle.lfu_batches.proofs.sound.remove_batch.Given as goal
 
-abbrev pub invariant-loop-i : goal.invariant-loop-i
-invariant-loop-i l =
-    Batching removes l.items (drop l.i l.items) (with_values (tables l.initial.keys l.initial.freqs l.initial.epochs l.initial.prevs l.initial.nexts l.initial.arena l.initial.index l.initial.buckets l.initial.spares) l.initial.values) l.initial.state l.i l.done (with_values (tables l.keys l.freqs l.epochs l.prevs l.nexts l.arena l.index l.buckets l.spares) l.values) l.state
-
-abbrev pub decreases-loop-i : goal.decreases-loop-i
-decreases-loop-i l = length l.items - l.i
+abbrev pub invariant-loop-item : goal.invariant-loop-item
+invariant-loop-item l =
+    Same l.initial.guests l.guests l.initial.levels l.levels ×
+    Batching removes l.items (drop l.item-index l.items) (lent l.initial.guests l.initial.epochs l.initial.levels l.initial.values) l.initial.state l.done
+    (lent l.guests l.epochs l.levels l.values) l.state

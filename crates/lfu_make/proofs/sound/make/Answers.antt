@@ -2,5 +2,5 @@
 use Rattle.lfu_make.proofs.News as news
 use Rattle.lfu_make.proofs.sound.make.Goals as goal
 
-pub returns : goal.returns
-returns c = news.cleared _ _ _ _ _ _ _ _ _ _ _ _ c.make.ensures c.requires.1 c.wipe.ensures
+pub returns-clause-does : goal.returns-clause-does
+returns-clause-does c = news.cleared _ _ _ _ _ _ _ _ _ _ c.make.ensures.does c.requires.1 c.wipe.ensures

@@ -2,8 +2,5 @@
 use Rattle.trace_record.proofs.Telling.{remove_tells}
 use Rattle.trace_record.proofs.sound.cases.remove.Goals as goal
 
-pub remove-done-requires : goal.remove-done-requires
-remove-done-requires c = c.requires
-
-pub returns : goal.returns
-returns c = remove_tells _ _ _ _ _ _ c.remove-done.result.answer c.of_value.ensures c.remove-done.ensures
+pub returns-clause-does : goal.returns-clause-does
+returns-clause-does c = remove_tells _ _ _ _ _ _ c.remove.result c.of_value.ensures c.remove.ensures.does
