@@ -77,6 +77,13 @@ impl State {
         self.lowest = lowest.0;
     }
 
+    // The state at another epoch.
+    pub fn date(&mut self, epoch: u64)
+        ensures { self.new ≡ dated self.old epoch }
+    {
+        self.epoch = epoch;
+    }
+
     // The state at the next epoch; 0 comes after the largest.
     pub fn advance(&mut self)
         ensures { self.new ≡ dated self.old (next_epoch self.old.epoch) }

@@ -74,5 +74,5 @@ fn drive(source: i32) {
 }
 
 fn main(rt: HostRuntime) {
-    inputs::each(&rt, drive);
+    inputs::each(&rt, &mut drive);
 }

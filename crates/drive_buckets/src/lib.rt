@@ -1,7 +1,7 @@
 // The operations of `drive` on the frequency buckets, each a public call and the line of its answer.
 #![tactic(auto)]
 
-ghost use Rattle.buckets_tables.specs.Slices.{lent, Same};
+ghost use Rattle.buckets_tables.specs.Slices.{joined, lent, Same};
 ghost use Rattle.buckets_tables.specs.Lent.{buckets};
 ghost use Rattle.drive_lines.specs.Driving.{Reports};
 ghost use Rattle.drive_buckets.specs.Operations.{bucket_call, DrivesBuckets};
@@ -10,7 +10,7 @@ use buckets_tables::{GuestTables, Guests, State};
 use cases::whole;
 use drive_lines::{Told, tell};
 use frequency_buckets::{insert, pop_min, remove, touch};
-use levels::Levels;
+use levels::{LevelTables, Levels};
 use numbers::{Frequency, Key};
 
 pub mod batches;
@@ -49,13 +49,13 @@ pub fn act(
 }
 
 // 21: the check that every call makes first. DONE is 0; a refusal is its number.
-pub fn check(
-    guests: &Guests<&mut [u64]>,
+pub fn check<G: GuestTables, L: LevelTables>(
+    guests: &G,
     epochs: &[u64],
-    levels: &Levels<&mut [u64]>,
+    levels: &L,
     state: State,
 ) -> Told
-    ensures { Reports buckets (lent guests.now epochs.now levels.now) state result }
+    ensures { Reports buckets (joined (G.lists guests.now) epochs.now (L.lists levels.now)) state result }
 {
     tell(buckets_check::check(guests, epochs, levels, state))
 }

@@ -20,7 +20,7 @@ use numbers::Key;
 use trace::Word;
 
 // The operations that only answer; any other is BAD.
-fn asks(
+pub fn asks(
     guests: &Guests<&[u64]>,
     epochs: &[u64],
     levels: &Levels<&[u64]>,

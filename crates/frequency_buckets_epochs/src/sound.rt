@@ -12,7 +12,7 @@ use numbers::{Key, Refusal};
 pub fn set_epoch(state: &mut State, epoch: u64)
     ensures { OnState (ledger.set_epoch epoch) state.old (ledger.done []) state.new }
 {
-    state.epoch = epoch;
+    state.date(epoch);
 }
 
 // Goes to the next epoch, and answers it; 0 comes after the largest.

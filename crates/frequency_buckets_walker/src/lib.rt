@@ -43,8 +43,8 @@ pub struct Walker<'a> {
 
 // Starts the walk of a frequency.
 pub fn start<'a>(
-    guests: &Guests<&[u64]>,
-    epochs: &[u64],
+    guests: &Guests<&'a [u64]>,
+    epochs: &'a [u64],
     levels: &Levels<&'a [u64]>,
     state: State,
     frequency: Frequency,

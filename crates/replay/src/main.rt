@@ -38,5 +38,5 @@ fn replay(from: i32) {
 }
 
 fn main(rt: HostRuntime) {
-    inputs::each(&rt, replay);
+    inputs::each(&rt, &mut replay);
 }

@@ -4,6 +4,9 @@ use Rattle.std.specs.Prelude.{◌≡◌, List, ℕ}
 use Rattle.ledger.specs.Cache.{Cache}
 use Rattle.ledger.specs.History.{Peek, PeekLfu}
 use Rattle.buckets_tables.specs.declared.State.{State}
+use Rattle.levels.specs.Held.{tabs}
+use Rattle.buckets_tables.specs.declared.Guests.{Guests}
+use Rattle.buckets_tables.specs.Slices.{joined}
 use Rattle.buckets_tables.specs.Tables.{tables}
 use Rattle.cache_tables.specs.Tables.{CacheTables, with_values, CacheHolds}
 use Rattle.trace.specs.declared.Line.{Line}
@@ -32,3 +35,7 @@ OfPeek key k i vs line =
 abbrev pub OfPeekLfu : (k b vs : List ℕ) → State → Line → Type 0
 OfPeekLfu k b vs s line =
     (f e p n a i sp : List ℕ) → let t = with_values (tables k f e p n a i b sp) vs in Lines (tells PeekLfu) t s line t s
+
+-- a clear is lent all tables but the bucket records
+abbrev pub beside : Guests (List ℕ) → (epochs freqs prevs nexts spares values : List ℕ) → (buckets : List ℕ) → CacheTables
+beside g e f p n sp vs b = with_values (joined g e (tabs f p n b sp)) vs

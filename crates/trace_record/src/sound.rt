@@ -49,7 +49,16 @@ fn act(
             let shown = guests.shown();
             reset(shown.keys, shown.index, epochs, levels, state, key)
         }
-        7 => clear(guests, epochs, levels, values, state),
+        7 => clear(
+            guests,
+            epochs,
+            levels.freqs,
+            levels.prevs,
+            levels.nexts,
+            levels.spares,
+            values,
+            state,
+        ),
         8 => evict(guests, epochs, levels, values, state),
         9..=255 => Line::Plain(Word::Bad),
         0 => Line::Plain(Word::Bad),

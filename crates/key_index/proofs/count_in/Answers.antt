@@ -1,4 +1,4 @@
--- The chain counts the links that are not the mark; the link at k is that of slot k.
+-- At the end all links have been passed; they are counted place by place, and the link at k is that of slot k.
 use Prim.Native.Nat.{◌-◌}
 use borrow.Author.Rules.{rules}
 use native.Mathlib.Omega.{arith}
@@ -23,7 +23,7 @@ returns c =
     let links = drop (length keys) index in
     let size : length links ≡ length index - length keys = length-drop (length keys) index in
     let all : length links ≡ length keys = omega (arith, c.requires.1) in
-    let counted : c.count.result ≡ count_by (λ w. not (eqb w OUT)) (take (length index - length keys) links) = search rules in
+    let counted : c.loop-link.n ≡ count_by (λ w. not (eqb w OUT)) (take (length index - length keys) links) = search rules in
     counted
     ∙ ap (count_by (λ w. not (eqb w OUT))) (take_all (length index - length keys) links (omega arith))
     ∙ count_cells (λ w. not (eqb w OUT)) links

@@ -4,7 +4,7 @@ ghost use Rattle.ledger.specs.History.{Insert, Get, Remove, Reset, Evict, Clear}
 ghost use Rattle.promise.specs.Promise.{Sound, SoundBeside};
 ghost use Rattle.key_index.specs.Index.{IndexSound};
 ghost use Rattle.levels.specs.Slices.{lent as lent_levels, SameLevels};
-ghost use Rattle.buckets_tables.specs.Slices.{Same};
+ghost use Rattle.buckets_tables.specs.Slices.{lent_guests, Same, SameGuests};
 ghost use Rattle.buckets_tables.specs.Lent as nine;
 ghost use Rattle.buckets_calls.specs.Calls as buckets;
 ghost use Rattle.cache_tables.specs.Slices.{lent};
@@ -12,7 +12,7 @@ ghost use Rattle.cache_tables.specs.Lent.{cache};
 ghost use Rattle.cache_calls.specs.Calls.{with, with_any, CachePeekable};
 ghost use Rattle.trace.specs.Lines.{tells};
 ghost use Rattle.trace_record.specs.Answers.{insertion_line, value_line, least_line, level_line};
-ghost use Rattle.trace_record.specs.Steps.{Lines, LinesBeside, OfPeek, OfPeekLfu};
+ghost use Rattle.trace_record.specs.Steps.{beside, Lines, LinesBeside, OfPeek, OfPeekLfu};
 
 use crate::Ask;
 use answers::Insertion;
@@ -183,27 +183,30 @@ pub(crate) fn least(keys: &[u64], buckets: &[u64], values: &[u64], state: State)
     )
 }
 
-// 7: every key is let go.
+// 7: every key is let go. The bucket records may hold anything then, and are not lent: so no `Levels`.
 pub(crate) fn clear(
     guests: &mut Guests<&mut [u64]>,
     epochs: &mut [u64],
-    levels: &mut Levels<&mut [u64]>,
+    freqs: &mut [u64],
+    prevs: &mut [u64],
+    nexts: &mut [u64],
+    spares: &mut [u64],
     values: &mut [u64],
     state: &mut State,
 ) -> Line
-    requires { Sound cache (lent guests.old epochs.old levels.old values.old) state.old }
-    ensures same { Same guests.old guests.new levels.old levels.new }
-    ensures does { Lines (tells Clear)
-        (lent guests.old epochs.old levels.old values.old) state.old result
-        (lent guests.new epochs.new levels.new values.new) state.new }
+    requires { SoundBeside cache (beside (lent_guests guests.old) epochs.old freqs.old prevs.old nexts.old spares.old values.old) state.old }
+    ensures same { SameGuests guests.old guests.new }
+    ensures does { LinesBeside (tells Clear)
+        (beside (lent_guests guests.old) epochs.old freqs.old prevs.old nexts.old spares.old values.old) state.old result
+        (beside (lent_guests guests.new) epochs.new freqs.new prevs.new nexts.new spares.new values.new) state.new }
 {
     *state = lfu_make::sound::make(
         guests,
         epochs,
-        levels.freqs,
-        levels.prevs,
-        levels.nexts,
-        levels.spares,
+        freqs,
+        prevs,
+        nexts,
+        spares,
         values,
         state.capacity,
     );

@@ -23,7 +23,7 @@ pub returns-in-6-clause-does : goal.returns-in-6-clause-does
 returns-in-6-clause-does c = acted _ _ _ _ _ _ _ _ 6 c.in-6.is (guests_shown _ _ _ c.shown-shown-in-6.ensures _ _ _ _ _ _ _ _ (c.reset.ensures.does (c.shown-shown-in-6.result.arena.now, c.args.values.now)))
 
 pub returns-in-7-clause-does : goal.returns-in-7-clause-does
-returns-in-7-clause-does c = acted _ _ _ _ _ _ _ _ 7 c.in-7.is c.clear.ensures.does
+returns-in-7-clause-does c = acted _ _ _ _ _ _ _ _ 7 c.in-7.is (c.clear.ensures.does _)
 
 pub returns-in-8-clause-does : goal.returns-in-8-clause-does
 returns-in-8-clause-does c = acted _ _ _ _ _ _ _ _ 8 c.in-8.is c.evict.ensures.does

@@ -5,4 +5,4 @@ use Rattle.trace_record.proofs.Telling.{clear_tells}
 use Rattle.trace_record.proofs.sound.cases.clear.Goals as goal
 
 pub returns-clause-does : goal.returns-clause-does
-returns-clause-does c = clear_tells _ _ _ _ _ refl (news.clear_does _ _ _ _ _ _ _ _ _ _ c.make.ensures.does)
+returns-clause-does c = λ b. clear_tells _ _ _ _ _ refl (news.clear_does _ _ _ _ _ _ _ _ _ _ c.make.ensures.does)
